@@ -1,5 +1,5 @@
 -- Lines of the text that is made of a recording: what is left out or unsaid, and scripts.
-use Rattle.std.specs.Prelude.{ℕ, zero, suc, ◌+◌, ◌/◌, ◌%◌, ◌==◌, nat_lt, Bool, true, false, List, [], ◌∷◌, ◌++◌, length, codes, Result, Ok, Err, if◌then◌else◌}
+use Rattle.std.specs.Prelude.{ℕ, zero, suc, ◌+◌, ◌/◌, ◌%◌, ◌==◌, nat_lt, Bool, true, false, List, [], ◌∷◌, ◌++◌, length, codes, Option, Some, None, Result, Ok, Err, if◌then◌else◌}
 use Rattle.std.specs.Fmt.{decimal}
 use Rattle.std.specs.List.{flat_map}
 use Rattle.hex.specs.Hex.{encode_lower}
@@ -10,6 +10,7 @@ use Rattle.usb_model.specs.Text.{hex_byte}
 use Rattle.trace_recorded.specs.declared.answer.RecordedAnswer.{RecordedAnswer}
 use Rattle.trace_recorded.specs.declared.answer.RecordedAnswer.TheVariants.{Given, Taken}
 use Rattle.trace_recorded.specs.declared.answer.WrittenBytes.{WrittenBytes}
+use Rattle.trace_recorded.specs.declared.described.DeviceIds.{DeviceIds}
 use Rattle.trace_recorded.specs.declared.endpoint.RecordedEndpoint.{RecordedEndpoint}
 use Rattle.trace_recorded.specs.declared.left_out.LeftOut.{LeftOut}
 use Rattle.trace_recorded.specs.declared.left_out.LeftOut.TheVariants.{NoConfiguration, Refused, Hub, NoAnswers, FifthDevice}
@@ -17,6 +18,7 @@ use Rattle.trace_recorded.specs.declared.device.OtherTransfer.{OtherTransfer}
 use Rattle.trace_recorded.specs.declared.note.EndpointNote.{EndpointNote}
 use Rattle.trace_recorded.specs.declared.note.EndpointNote.TheVariants.{Lost, TooLong, TooLarge, Requests, TooMany, Others}
 use Rattle.trace_recorded.specs.declared.note.Noted.{Noted}
+use Rattle.trace_recorded.specs.Described.{ids_text}
 use Rattle.trace_recorded.specs.Endpoints.{no_note, with_noted}
 use Rattle.trace_recorded.specs.Folds.{after}
 use Rattle.trace_recorded.specs.Requests.{most_data}
@@ -33,9 +35,15 @@ left_out_text FifthDevice = codes "the fifth device"
 abbrev pub first_in : ℕ → List ℕ
 first_in frame = codes " (first in frame " ++ (decimal frame ++ codes ")")
 
+-- the ids that a device says itself, where they were read
+abbrev pub said_ids : Option DeviceIds → List ℕ
+said_ids None = []
+said_ids (Some ids) = codes " (" ++ (ids_text ids ++ codes ")")
+
 -- the line of a device that is left out, of which the first packet has this number
-abbrev pub left_out_line : ℕ → ℕ → LeftOut → List ℕ
-left_out_line key frame why = codes "# bus " ++ (decimal (key / 256) ++ (codes " device " ++ (decimal (key % 256) ++ (codes " is left out: " ++ (left_out_text why ++ (codes " (first in frame " ++ (decimal frame ++ codes ")\n")))))))
+abbrev pub left_out_line : ℕ → Option DeviceIds → ℕ → LeftOut → List ℕ
+left_out_line key ids frame why =
+    codes "# bus " ++ (decimal (key / 256) ++ (codes " device " ++ (decimal (key % 256) ++ (said_ids ids ++ (codes " is left out: " ++ (left_out_text why ++ (codes " (first in frame " ++ (decimal frame ++ codes ")\n"))))))))
 
 -- what an endpoint's script leaves unsaid
 abbrev pub note_text : EndpointNote → List ℕ

@@ -1,6 +1,8 @@
 -- The scenario that is made of a capture: what its devices answered.
-use Rattle.std.specs.Prelude.{ℕ, ◌+◌, nat_lt, Bool, List, [], ◌∷◌, ◌++◌, codes, Result, Ok, Err, if◌then◌else◌}
+use Rattle.std.specs.Prelude.{ℕ, ◌+◌, nat_lt, Bool, List, [], ◌∷◌, ◌++◌, codes, Option, Result, Ok, Err, if◌then◌else◌}
+use Rattle.std.specs.Option.{option_map}
 use Rattle.trace_recorded.specs.declared.capture_fault.CaptureFault.{CaptureFault}
+use Rattle.trace_recorded.specs.declared.described.DeviceIds.{DeviceIds}
 use Rattle.trace_recorded.specs.declared.device.RecordedDevice.{RecordedDevice}
 use Rattle.trace_recorded.specs.declared.event.RecordedEvent.{RecordedEvent}
 use Rattle.trace_recorded.specs.declared.left_out.LeftOut.{LeftOut}
@@ -9,32 +11,38 @@ use Rattle.trace_recorded.specs.declared.reader.TextReader.{TextReader}
 use Rattle.trace_recorded.specs.declared.recording.Recording.{Recording}
 use Rattle.trace_recorded.specs.declared.scenario.Listing.{Listing}
 use Rattle.trace_recorded.specs.declared.scenario.RecordedScenario.{RecordedScenario}
+use Rattle.trace_recorded.specs.Controls.{controls_of}
+use Rattle.trace_recorded.specs.Described.{ids_of}
 use Rattle.trace_recorded.specs.Devices.{by_device, device_of}
 use Rattle.trace_recorded.specs.Files.{recording}
 use Rattle.trace_recorded.specs.Folds.{after}
 use Rattle.trace_recorded.specs.DeviceText.{device_text}
 use Rattle.trace_recorded.specs.Lines.{left_out_line}
 
--- a device is left out, of which the first packet has this number, for this reason
-abbrev pub with_left_out : ℕ → ℕ → LeftOut → Listing → Listing
-with_left_out key frame why listing = record listing { left_out = listing.left_out ++ left_out_line key frame why }
+-- a device is left out that says these ids itself, of which the first packet has this number, for this reason
+abbrev pub with_left_out : ℕ → Option DeviceIds → ℕ → LeftOut → Listing → Listing
+with_left_out key ids frame why listing = record listing { left_out = listing.left_out ++ left_out_line key ids frame why }
 
 -- a device is kept, under the next number
 abbrev pub with_kept : ℕ → RecordedDevice → Listing → Listing
 with_kept key device listing = record listing { kept = listing.kept ++ device_text listing.reader listing.count key device; count = listing.count + 1 }
 
 -- a device more: a scenario has four at most
-abbrev pub with_device : ℕ → ℕ → Result RecordedDevice LeftOut → Listing → Listing
-with_device key frame (Err why) listing = with_left_out key frame why listing
-with_device key frame (Ok device) listing = if nat_lt listing.count 4 then with_kept key device listing else with_left_out key frame FifthDevice listing
+abbrev pub with_device : ℕ → Option DeviceIds → ℕ → Result RecordedDevice LeftOut → Listing → Listing
+with_device key ids frame (Err why) listing = with_left_out key ids frame why listing
+with_device key ids frame (Ok device) listing = if nat_lt listing.count 4 then with_kept key device listing else with_left_out key ids frame FifthDevice listing
 
 -- the number of the first packet of events
 abbrev pub first_frame : List RecordedEvent → ℕ
 first_frame [] = 0
 first_frame (event ∷ events) = event.frame
 
+-- the ids that a device with these events says itself, where its descriptor was read
+abbrev pub known_ids : List RecordedEvent → Option DeviceIds
+known_ids events = option_map ids_of (controls_of events).identity.descriptor
+
 unfoldable pub with_found : ℕ × List RecordedEvent → Listing → Listing
-with_found found listing = with_device found.0 (first_frame found.1) (device_of listing.reader found.1) listing
+with_found found listing = with_device found.0 (known_ids found.1) (first_frame found.1) (device_of listing.reader found.1) listing
 
 abbrev pub no_device : TextReader → Listing
 no_device reader = record { reader = reader; left_out = []; kept = []; count = 0 }

@@ -1,6 +1,7 @@
 //! A device as a file beside a capture describes it.
 
 ghost use Rattle.std.specs.Prelude.{◌≡◌, Some};
+ghost use Rattle.trace_recorded.specs.Lines.{said_ids};
 ghost use Rattle.trace_recorded.specs.Described.{hex_number, ids_of, ids_text, is_same};
 
 use crate::configuration::byte_or_zero;
@@ -98,5 +99,20 @@ impl fmt::Display for DeviceIds {
     fn fmt<W: fmt::Write>(&self, f: &mut fmt::Formatter<W>) -> fmt::Result {
         let (vendor, product) = (HexNumber(self.vendor), HexNumber(self.product));
         write!(f, "{vendor}:{product}")
+    }
+}
+
+/// The ids that a device says itself, behind a blank and in brackets; nothing where they weren't read.
+#[derive(Clone, Copy)]
+pub(crate) struct SaidIds(pub(crate) Option<DeviceIds>);
+
+impl fmt::Display for SaidIds {
+    ghost output = { λ said. Some (said_ids said.0) };
+
+    fn fmt<W: fmt::Write>(&self, f: &mut fmt::Formatter<W>) -> fmt::Result {
+        match self.0 {
+            Some(ids) => write!(f, " ({ids})"),
+            None => Ok(()),
+        }
     }
 }

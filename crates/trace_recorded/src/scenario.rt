@@ -2,9 +2,11 @@
 
 ghost use Rattle.std.specs.Prelude.{◌≡◌, ◌<◌, IfErr, IfOk, Ok};
 ghost use Rattle.trace_recorded.specs.Faults.{IsCaptureFault};
-ghost use Rattle.trace_recorded.specs.Scenario.{cut_line, first_frame, listing_of, no_device, recorded_scenario, scenario_by, with_device, with_found, with_kept};
+ghost use Rattle.trace_recorded.specs.Scenario.{cut_line, first_frame, known_ids, listing_of, no_device, recorded_scenario, scenario_by, with_device, with_found, with_kept};
 
 use crate::capture_fault::CaptureFault;
+use crate::controls::{Controls, read_controls};
+use crate::described::DeviceIds;
 use crate::device::{RecordedDevice, by_device, device_of};
 use crate::event::RecordedEvent;
 use crate::left_out::LeftOut;
@@ -49,6 +51,17 @@ pub(crate) fn first_frame(events: &[RecordedEvent]) -> u64
     }
 }
 
+/// The ids that a device with these events says itself, where its descriptor was read.
+fn known_ids(alloc: Global, events: &[RecordedEvent]) -> Result<Option<DeviceIds>, AllocError>
+    ensures { IfOk result (λ ids. ids ≡ known_ids events.now) }
+{
+    let Controls { identity, .. } = read_controls(alloc, events)?;
+    match &identity.descriptor {
+        Some(descriptor) => Ok(Some(DeviceIds::of(descriptor.as_slice()))),
+        None => Ok(None),
+    }
+}
+
 impl Listing {
     /// No device yet.
     pub(crate) fn new(alloc: Global, reader: TextReader) -> Listing
@@ -77,15 +90,19 @@ impl Listing {
     fn put(
         &mut self,
         key: u64,
+        ids: Option<DeviceIds>,
         frame: u64,
         device: Result<RecordedDevice, LeftOut>,
     ) -> Result<(), AllocError>
-        ensures { IfOk result (λ _. self.new ≡ with_device key frame device self.old) }
+        ensures { IfOk result (λ _. self.new ≡ with_device key ids frame device self.old) }
     {
         match device {
-            Err(why) => self.left_out.put_left_out(key, frame, why),
+            Err(why) => self.left_out.put_left_out(key, ids, frame, why),
             Ok(device) if self.count < MOST_DEVICES => self.keep(key, &device),
-            Ok(_) => self.left_out.put_left_out(key, frame, LeftOut::FifthDevice),
+            Ok(_) => {
+                let why = LeftOut::FifthDevice;
+                self.left_out.put_left_out(key, ids, frame, why)
+            }
         }
     }
 
@@ -100,7 +117,8 @@ impl Listing {
         ensures { IfOk result (λ _. self.new ≡ with_found (key, events.now) self.old) }
     {
         let device = device_of(alloc, self.reader, events)?;
-        self.put(key, first_frame(events), device)
+        let ids = known_ids(alloc, events)?;
+        self.put(key, ids, first_frame(events), device)
     }
 
     /// The scenario.

@@ -5,6 +5,7 @@ ghost use Rattle.std.specs.List.{flat_map};
 ghost use Rattle.hex.specs.Hex.{encode_lower};
 ghost use Rattle.trace_recorded.specs.Lines.{endpoint_notes, left_out_line, note_line, noted_of, other_note, other_notes, script_head, script_line, script_text, with_other_of};
 
+use crate::described::{DeviceIds, SaidIds};
 use crate::device::OtherTransfer;
 use crate::endpoint::RecordedEndpoint;
 use crate::left_out::LeftOut;
@@ -96,18 +97,20 @@ impl ScenarioText {
         self.bytes.extend_from_slice(digits.as_bytes())
     }
 
-    /// Puts the line of a device that is left out behind it, of which the first packet has this number.
+    /// Puts the line of a device that is left out behind it, with the ids that it says itself, where they were read. Its first packet has
+    /// this number.
     pub(crate) fn put_left_out(
         &mut self,
         key: u64,
+        ids: Option<DeviceIds>,
         frame: u64,
         why: LeftOut,
     ) -> Result<(), AllocError>
-        ensures { IfOk result (λ _. self.new ≡ self.old ++ left_out_line key frame why) }
+        ensures { IfOk result (λ _. self.new ≡ self.old ++ left_out_line key ids frame why) }
     {
-        let (bus, device) = (key / 256, key % 256);
+        let (bus, device, ids) = (key / 256, key % 256, SaidIds(ids));
         let line = format!(in self.alloc;
-            "# bus {bus} device {device} is left out: {why} (first in frame {frame})\n"
+            "# bus {bus} device {device}{ids} is left out: {why} (first in frame {frame})\n"
         )?;
         self.put(line.as_str())
     }
