@@ -155,6 +155,13 @@ def what_it_lacks_is_told(trial: Trial) -> None:
                  "--umockdev FILE")
 
 
+def who_is_left_out_is_told(trial: Trial) -> None:
+    """Without its configuration, which was read where the first bytes of an answer are a configuration's (USB 2.0, table 9-10)."""
+    trial.keep_events(lambda it: it.type != 2 or it.data[1:2] != b"\x02")
+    trial.expect(trial.go(), 2, "run.pcap: bus 1 device 2 (1209:0001) is left out: no configuration descriptor")
+    trial.expect(trial.go("--device", "1209:0003"), 2, "run.pcap has no device 1209:0003; it has bus 1 device 2 (1209:0001)")
+
+
 def descriptors_complete_it(trial: Trial) -> None:
     trial.take_out_descriptors()
     (trial.folder / "copy.hex").write_text(DEVICE + CONFIG)
@@ -326,7 +333,7 @@ TEXT_TRIALS: List[Callable[[Trial], None]] = [
 ]
 TRIALS: List[Callable[[Trial], None]] = [
     a_recorded_run_is_made_again, a_reset_does_not_begin_it_anew, seeds_say_how_to_run_again, another_run_differs, other_forms_are_read,
-    what_it_lacks_is_told, descriptors_complete_it, a_device_folder_completes_it, umockdev_completes_it, what_is_there_stays,
+    what_it_lacks_is_told, who_is_left_out_is_told, descriptors_complete_it, a_device_folder_completes_it, umockdev_completes_it, what_is_there_stays,
     one_device_is_chosen, wrong_files_are_refused, windows_captures_are_run, *TEXT_TRIALS,
 ]
 

@@ -10,7 +10,7 @@ REFUSALS = re.compile(rb"usbtrace: the capture is refused: (not a capture|a file
 FIRST = r" \(first in frame [1-9]\d*\)"
 COMMENTS = re.compile(
     r"# the capture ends amid a record"
-    r"|# bus \d+ device \d+ is left out: "
+    r"|# bus \d+ device \d+( \([0-9a-f]{4}:[0-9a-f]{4}\))? is left out: "
     rf"(no configuration descriptor|its configuration descriptor is refused|a hub|no answers|the fifth device){FIRST}"
     r"|# device \d was bus \d+ device \d+"
     r"|# ep [0-9a-f]{2}: (\d+ bytes were not recorded; they are 00 here|\d+ packets were too long; their bytes are 00 here"

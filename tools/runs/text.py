@@ -10,7 +10,7 @@ from program import tell
 REFUSED = 2
 ORIGIN = re.compile(r"# device (\d+) was (bus \d+ device \d+)$")
 DESCRIPTOR = re.compile(r"descriptor (\d+) ([0-9a-f]{36})")
-LEFT_OUT = re.compile(r"# (bus \d+ device \d+) is left out: (.+) \(first in frame \d+\)$")
+LEFT_OUT = re.compile(r"# (bus \d+ device \d+(?: \([0-9a-f]{4}:[0-9a-f]{4}\))?) is left out: (.+) \(first in frame \d+\)$")
 NO_DEVICE = re.compile(r"the capture has no device ([0-9a-f]{4}:[0-9a-f]{4})")
 # What helps where a device isn't in the text.
 REMEDIES = {
