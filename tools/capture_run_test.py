@@ -333,8 +333,8 @@ TEXT_TRIALS: List[Callable[[Trial], None]] = [
 ]
 TRIALS: List[Callable[[Trial], None]] = [
     a_recorded_run_is_made_again, a_reset_does_not_begin_it_anew, seeds_say_how_to_run_again, another_run_differs, other_forms_are_read,
-    what_it_lacks_is_told, who_is_left_out_is_told, descriptors_complete_it, a_device_folder_completes_it, umockdev_completes_it, what_is_there_stays,
-    one_device_is_chosen, wrong_files_are_refused, windows_captures_are_run, *TEXT_TRIALS,
+    what_it_lacks_is_told, who_is_left_out_is_told, descriptors_complete_it, a_device_folder_completes_it, umockdev_completes_it,
+    what_is_there_stays, one_device_is_chosen, wrong_files_are_refused, windows_captures_are_run, *TEXT_TRIALS,
 ]
 
 
