@@ -18,7 +18,7 @@ import times
 import unproved
 
 ROOT = pathlib.Path(__file__).resolve().parent.parent
-KEPT = "rt: tirnouch_c is kept: an earlier run on this machine proved the same files over the same libraries"
+KEPT = "rt: usb_rings is kept: an earlier run on this machine proved the same files over the same libraries"
 
 
 class Proofs(unittest.TestCase):
@@ -34,13 +34,13 @@ class Proofs(unittest.TestCase):
         """The status of a run of this script in the place of the prover, what it passed on, and what it told."""
         out, told = io.StringIO(), io.StringIO()
         with contextlib.redirect_stderr(told):
-            status = progress.prove("make it", names or crate_graph.below("usb_rings"), ["sh", "-c", script], out, quiet=quiet)
+            status = progress.prove("make it", names or crate_graph.below("usb_descriptors"), ["sh", "-c", script], out, quiet=quiet)
         return status, out.getvalue(), told.getvalue()
 
     def test_crates_that_stood_and_crates_that_are_kept_are_counted(self) -> None:
         before, progress.LOGGED = progress.LOGGED, 0.2
         try:
-            _, _, told = self.prove("echo 'rt: usb_trb is kept: an earlier run'; sleep 0.5; echo 'rt: usb_rings proved'; sleep 0.5")
+            _, _, told = self.prove("echo 'rt: usb_model is kept: an earlier run'; sleep 0.5; echo 'rt: proof_model proved'; sleep 0.5")
         finally:
             progress.LOGGED = before
         self.assertIn("make it: 1 of 3 crates; now other work; 0 minutes gone, some ", told)
@@ -67,7 +67,7 @@ class Proofs(unittest.TestCase):
         proofs = progress.Proofs(["usb_trb", "usb_rings"], progress.Meter())
         proofs.cost = {"usb_trb": 2.0, "usb_rings": 40.0}
         self.assertEqual(proofs.minutes_left(), 42.0)  # usb_rings waits for usb_trb
-        proofs.read(KEPT.replace("tirnouch_c", "usb_rings"))
+        proofs.read(KEPT)
         self.assertEqual(proofs.minutes_left(), 2.0)
 
 
