@@ -12,7 +12,7 @@ import subprocess
 import sys
 import tempfile
 from concurrent.futures import ThreadPoolExecutor
-from typing import Callable, Dict, List, NamedTuple, Optional
+from typing import Callable, Dict, List, NamedTuple, Optional, Tuple
 
 ROOT = pathlib.Path(__file__).resolve().parent.parent
 RUN, REPLAY = ROOT / "tools" / "tirnouch-run", ROOT / "tools" / "replay.py"
@@ -24,6 +24,8 @@ BULK = "0902200001010080320904000002ff0000000705810240000007050202400000"
 TWO = "0902290002010080320904000002ff00000007058102400000070502024000000904010000ff000000"
 INTERRUPT = "0902190001010080320904000001ff00000007058103080001"
 HUB = "09021900010100e0000904000001090000000705810301000c"
+# So often is a request asked that is answered `n` (DEVICES.md, "Control requests"): the answers of one that has none before another.
+SILENT = " n" * 4096
 UNPROVED = "tirnouch-run: the core of this library is not proved"
 
 Ran = subprocess.CompletedProcess[str]
@@ -34,12 +36,13 @@ def counting(first: int, length: int) -> str:
 
 
 class Case(NamedTuple):
-    """A driver of again.c: its devices, what it prints, and what is told where its first written byte has another bit."""
+    """A driver of again.c: its devices, what it prints, what is told where its first written byte has another bit, and options of its runs."""
 
     kind: str
     devices: str
     printed: str
     told: str
+    words: Tuple[str, ...] = ()
 
 
 CASES = [
@@ -58,6 +61,29 @@ asked: LIBUSB_ERROR_IO
 asked: LIBUSB_ERROR_PIPE
 """, f"device 0, requests 40 02 0007 0001: request 1 differs at offset 0: came [03]{counting(3, 16)}.. (length 200), "
          f"expected [02]{counting(3, 16)}.. (length 200)"),
+    # Where time is virtual each request is asked before it is over.
+    Case("silent", f"""device 0 {BULK}
+control 0 c0 01 0000 0000{SILENT} d:0102 d:03{SILENT}{SILENT} d:04 n
+control 0 40 02 0007 0001 a{SILENT} a
+control 0 c0 03 0000 0000{SILENT} d:05
+control 0 c0 04 0000 0000 n
+""", """asked: LIBUSB_ERROR_TIMEOUT
+asked: 0102
+asked: 03
+asked: LIBUSB_ERROR_TIMEOUT
+asked: LIBUSB_ERROR_TIMEOUT
+asked: 04
+asked: LIBUSB_ERROR_TIMEOUT
+asked: LIBUSB_ERROR_TIMEOUT
+told: 3
+told: -7
+told: 3
+it waits
+cancelled: 1
+asked: 05
+it waits
+""", "device 0, requests 40 02 0007 0001: request 1 differs at offset 0: came [03]0304 (length 3), expected [02]0304 (length 3)",
+         ("--virtual",)),
     Case("tells", f"""device 0 {TWO}
 ids 0 1209 0001 0203
 class 0 02 01 03
@@ -150,7 +176,7 @@ comes back 0 as 1
     Case("twice", f"device 0 {BULK}\nscript 0 02 a\n", "written: all, 1\nwritten: all, 1\n",
          "device 0, endpoint 02: packet 1 differs at offset 0: came [00] (length 1), expected [01] (length 1)"),
 ]
-# A device that is a program: it counts what is written, and tells that at 81, and by a vendor request in 300 bytes.
+# A device that is a program: it counts what is written, and tells that at 81, and by a vendor request in 300 bytes; before that it isn't ready.
 COUNTER = """count=0
 while read -r kind first second; do
     case $kind in
@@ -162,7 +188,7 @@ while read -r kind first second; do
         ;;
     out) count=$((count + 1)) && echo a ;;
     in) test $count -gt 0 && printf 'd:%%02x\\n' $count || echo n ;;
-    control) case $first in c0*) printf 'd:%%0600d\\n' $count ;; *) echo a ;; esac ;;
+    control) case $first in c0*) test $count -gt 0 && printf 'd:%%0600d\\n' $count || echo n ;; *) echo a ;; esac ;;
     esac
 done
 """ % BULK
@@ -217,13 +243,13 @@ class Trial:
 
 def round_trip(case: Case) -> Callable[[Trial], None]:
     def passes_again(trial: Trial) -> None:
-        trial.passes(trial.record(case.devices, case.kind), case.printed, "first")
-        trial.passes(trial.go("run.txt", case.kind, "--trace", "again.txt"), case.printed, "again")
-        trial.passes(trial.go("again.txt", case.kind), case.printed, "once more")
-        ran = trial.go("run.txt", case.kind, changed=True)
+        trial.passes(trial.record(case.devices, case.kind, *case.words), case.printed, "first")
+        trial.passes(trial.go("run.txt", case.kind, *case.words, "--trace", "again.txt"), case.printed, "again")
+        trial.passes(trial.go("again.txt", case.kind, *case.words), case.printed, "once more")
+        ran = trial.go("run.txt", case.kind, *case.words, changed=True)
         trial.expect(ran, 3, case.told, "what " + str(trial.program) + " wrote isn't what run.txt expects: status 3 in place of 0")
-        trial.expect(trial.go("run.txt", case.kind, "--lenient", changed=True), 0, case.told)
-        ran = trial.go("run.txt", case.kind, "--seeds", "1-3")
+        trial.expect(trial.go("run.txt", case.kind, *case.words, "--lenient", changed=True), 0, case.told)
+        ran = trial.go("run.txt", case.kind, *case.words, "--seeds", "1-3")
         trial.expect(ran, 0, "3 runs, 0 failed")
     passes_again.__name__ = f"{case.kind}: the run passes again"
     return passes_again
@@ -235,8 +261,9 @@ def seeds_are_repeated_too(trial: Trial) -> None:
         if case.kind == "large":
             continue
         for seed in ("3", "8"):
-            trial.passes(trial.record(case.devices, case.kind, "--seed", seed), case.printed, f"{case.kind}, seed {seed}")
-            trial.passes(trial.go("run.txt", case.kind), case.printed, f"{case.kind}, behind seed {seed}")
+            words = (*case.words, "--seed", seed)
+            trial.passes(trial.record(case.devices, case.kind, *words), case.printed, f"{case.kind}, seed {seed}")
+            trial.passes(trial.go("run.txt", case.kind, *case.words), case.printed, f"{case.kind}, behind seed {seed}")
 
 
 def programs_are_in_their_own_traces(trial: Trial) -> None:
@@ -256,6 +283,40 @@ def programs_are_in_their_own_traces(trial: Trial) -> None:
     trial.check(trial.text("--device", "1209:0003")[1] == f"device 0 {BULK}", "--device doesn't choose the second device")
     (trial.folder / "run.txt.d0").unlink()
     trial.expect(trial.go("run.txt", "counts"), 2, "run.txt.d0 isn't there, which has the steps of device 0: keep it beside run.txt")
+
+
+def requests_without_answers_wait_again(trial: Trial) -> None:
+    """The text has them in their places, and the trace tells of each: where it waits, and how it ends; of one that the process leaves behind
+    that it waits."""
+    case = next(it for it in CASES if it.kind == "silent")
+    trial.record(case.devices, case.kind, *case.words)
+    wanted = [line.replace(" a", " a:020304") for line in case.devices.splitlines() if line.startswith("control ")]
+    found = [line for line in trial.text() if line.startswith("control ")]
+    trial.check(found == wanted, f"the lines are {[line.replace(SILENT, ' ..') for line in found]}")
+    told = [line for line in (trial.folder / "run.txt").read_text().splitlines() if line.startswith("# request ")]
+    trial.check(told.count("# request 0 c0 01 0000 0000 8 waits") == 5 and "# request 0 40 02 0007 0001 3 waits 020304" in told,
+                f"the trace has {told}")
+    ends = [told.count(f"# request 0 {it}") for it in ("TIMED_OUT", "CANCELLED", "NO_DEVICE")]
+    trial.check(ends == [6, 2, 0], f"the trace has so many ends of each kind: {ends}")
+    waits = next(it for it in CASES if it.kind == "waits")
+    printed = re.sub("told: .", "told: -7", waits.printed)
+    trial.passes(trial.record(waits.devices.replace("* a\n", "* n\n"), "waits", "--virtual"), printed, "answers that wait for them")
+    trial.passes(trial.go("run.txt", "waits", "--virtual"), printed, "answers that wait for them, again")
+    devices = f"device 0 {BULK}\ncontrol 0 c0 03 0000 0000 d:07 n\n"
+    for words in ((), ("--seed", "3")):
+        trial.passes(trial.record(devices, "vanishes", *words), "asked: 07\nit waits\n", f"vanishes, {words}")
+        trial.check(devices.splitlines()[1] in trial.text(), f"a request that is left behind: {trial.text()}")
+        trial.passes(trial.go("run.txt", "vanishes", *words), "asked: 07\nit waits\n", f"vanishes again, {words}")
+
+
+def programs_that_are_not_ready_wait_again(trial: Trial) -> None:
+    """A request that a device that computes isn't ready for, before one that it answers."""
+    (trial.folder / "counter.sh").write_text(COUNTER)
+    printed = f"asked: LIBUSB_ERROR_TIMEOUT\nwritten: all, 1\nasked: {1:0600d}\n"
+    trial.passes(trial.record("program 0 sh counter.sh\n", "readies", "--virtual"), printed, "readies")
+    trial.check(f"control 0 c0 01 0000 0000{SILENT} d:{1:0600d}" in trial.text(), "the text hasn't the request that waits")
+    trial.passes(trial.go("run.txt", "readies", "--virtual"), printed, "readies again")
+    trial.expect(trial.go("run.txt", "readies", "--virtual", "--seeds", "1-3"), 0, "3 runs, 0 failed")
 
 
 # A device's traces where it goes on in another session: a read that is taken out before it was answered, and one of which a packet came.
@@ -296,6 +357,38 @@ def sessions_are_joined(trial: Trial) -> None:
     moved = withdrawn.replace("cancel", "# device 0 goes on in another session: what is in flight is taken out\ncancel")
     (trial.folder / "run.txt.d0").write_text(BEGUN + moved)
     trial.check(trial.text()[4:] == ["script 0 81 d:07"], f"a read that went on is withdrawn: {trial.text()}")
+
+
+ASKED = "# request 0 c0 01 0000 0000 8 {}\n"
+
+
+def requests_go_on_in_sessions(trial: Trial) -> None:
+    """One that waits as a session ends ends in the next one, with an answer or without."""
+    (trial.folder / "run.txt").write_text(f"{HEAD}# device 0 has a core of its own\n")
+    writes = "# request 0 40 02 0007 0001 2 {}\n"
+    for first, then, wanted in (
+            (ASKED, ASKED.format("COMPLETED 1 07"), "c0 01 0000 0000 d:07"), (ASKED, "", "c0 01 0000 0000 n"),
+            (ASKED, "# request 0 TIMED_OUT\n", "c0 01 0000 0000 n"),
+            (ASKED, "# request 0 NO_DEVICE\n" + ASKED.format("STALL"), f"c0 01 0000 0000{SILENT} s"),
+            (ASKED, ASKED.format("ERROR") + ASKED.format("waits"), "c0 01 0000 0000 b n"),
+            (writes, writes.format("COMPLETED 2 0102"), "40 02 0007 0001 a:0102"),
+            (writes, writes.format("COMPLETED 2 0102") + writes.format("waits 0304"), "40 02 0007 0001 a:0102 n")):
+        (trial.folder / "run.txt.d0").write_text(BEGUN + first.format("waits 0102" if first is writes else "waits"))
+        (trial.folder / "run.txt.d0.2").write_text(BEGUN + then)
+        found = [line for line in trial.text() if line.startswith("control ")]
+        trial.check(found == [f"control 0 {wanted}"], f"behind {then!r}: {[it.replace(SILENT, ' ..') for it in found]}")
+
+
+def standard_requests_wait_too(trial: Trial) -> None:
+    """A string that is read in vain, and then not: a line answers in the place of the descriptors. And a line has 65536 answers."""
+    string = "# request 0 80 06 0302 0409 255 {}\n"
+    (trial.folder / "run.txt").write_text(BEGUN + string.format("waits") + "# request 0 TIMED_OUT\n" + string.format("COMPLETED 4 04034100"))
+    lines = trial.text()
+    trial.check(f"control 0 80 06 0302 0409{SILENT} d:04034100" in lines, f"the text is {[it.replace(SILENT, ' ..') for it in lines]}")
+    (trial.folder / "run.txt").write_text(BEGUN + (ASKED.format("waits") + "# request 0 CANCELLED\n") * 17 + ASKED.format("COMPLETED 1 07"))
+    lines = trial.text()[-2:]
+    trial.check(lines == ["# control c0 01 0000 0000: the first 65536 of 69633 answers", "control 0 c0 01 0000 0000" + SILENT * 16],
+                f"the text ends with {[it.replace(SILENT, ' ..') for it in lines]}")
 
 
 def buses_have_texts_of_their_own(trial: Trial) -> None:
@@ -348,7 +441,8 @@ def comments_change_nothing(trial: Trial) -> None:
     trial.check(ran.returncode == 0, f"replay: {ran.stdout!r} {ran.stderr!r}")
 
 
-TRIALS = [*map(round_trip, CASES), seeds_are_repeated_too, programs_are_in_their_own_traces, sessions_are_joined,
+TRIALS = [*map(round_trip, CASES), seeds_are_repeated_too, programs_are_in_their_own_traces, requests_without_answers_wait_again,
+          programs_that_are_not_ready_wait_again, sessions_are_joined, requests_go_on_in_sessions, standard_requests_wait_too,
           buses_have_texts_of_their_own, a_trace_is_told_from_a_text, comments_change_nothing]
 TRIALS_NAMED = {it.__name__.partition(":")[0]: it for it in TRIALS}
 

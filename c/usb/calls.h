@@ -147,6 +147,7 @@ uint64_t next_ask_of_all(void);
 /* control.c */
 int submit_control(struct transfer *transfer);
 bool answer_controls(void);
+void leave_unanswered(struct transfer *transfer, const char *status);
 void end_requests(const struct device *device);
 
 /* standard.c: standard requests that tell and change what is kept here */

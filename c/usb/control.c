@@ -132,16 +132,21 @@ static int answer_of(struct transfer *transfer)
     return ask(transfer, setup, setup + SETUP, length);
 }
 
-/* Control requests are in no ring, so the trace has them as comments: of which device, the setup packet, what came of it, and the bytes
- * that were read, or all that was written, however much of it moved. */
-static void trace_request(const struct device *device, const uint8_t *setup, int answer)
+/* Control requests are in no ring, so the trace has them as comments: of which device, and the setup packet. */
+static void trace_setup(const struct device *device, const uint8_t *setup)
 {
-    int length = (int)two_bytes(setup + 6), shown = setup[0] & LIBUSB_ENDPOINT_IN ? answer : length;
     char line[64];
-    snprintf(line, sizeof line, "# request %d %02x %02x %04x %04x %d ", device->number, setup[0], setup[1], two_bytes(setup + 2),
-             two_bytes(setup + 4), length);
+    snprintf(line, sizeof line, "# request %d %02x %02x %04x %04x %u ", device->number, setup[0], setup[1], two_bytes(setup + 2),
+             two_bytes(setup + 4), two_bytes(setup + 6));
     trace_to(device->core);
     trace_text(line);
+}
+
+/* Behind that what came of it, and the bytes that were read, or all that was written, however much of it moved. */
+static void trace_request(const struct device *device, const uint8_t *setup, int answer)
+{
+    int shown = setup[0] & LIBUSB_ENDPOINT_IN ? answer : (int)two_bytes(setup + 6);
+    trace_setup(device, setup);
     if (answer < 0) {
         trace_text(answer == TIRNOUCH_STALL ? "STALL" : "ERROR");
     } else {
@@ -153,6 +158,28 @@ static void trace_request(const struct device *device, const uint8_t *setup, int
     }
     trace_text("\n");
     trace_out();
+}
+
+/* It was asked, and isn't answered so far: this stands in the trace of a run that ends before it. With what it writes. */
+static void trace_wait(const struct device *device, const uint8_t *setup)
+{
+    int written = setup[0] & LIBUSB_ENDPOINT_IN ? 0 : (int)two_bytes(setup + 6);
+    trace_setup(device, setup);
+    trace_text(written ? "waits " : "waits");
+    if (written)
+        trace_hex(setup + SETUP, written);
+    trace_text("\n");
+    trace_out();
+}
+
+/* One leaves without an answer, and its buffer may be gone. At a device one waits, so the trace tells of its end without the setup packet; of
+ * one that wasn't asked the trace has nothing. */
+void leave_unanswered(struct transfer *transfer, const char *status)
+{
+    const struct device *device = transfer->handle->device;
+    leave(&process.bus.controls, transfer);
+    if (transfer->naks)
+        trace_comment(device->core, "request %d %s", device->number, status);
 }
 
 static void end_request(struct transfer *transfer, int answer)
@@ -173,7 +200,7 @@ static void end_request(struct transfer *transfer, int answer)
 
 static bool end_for_absence(struct transfer *transfer)
 {
-    leave(&process.bus.controls, transfer);
+    leave_unanswered(transfer, "NO_DEVICE");
     end_transfer(transfer, LIBUSB_TRANSFER_NO_DEVICE, 0);
     return true;
 }
@@ -194,12 +221,15 @@ static bool answer_control(struct transfer *transfer, bool *waits)
     struct device *device = transfer->handle->device;
     if (is_lost(transfer->handle))
         return end_for_absence(transfer);
+    bool is_first = !transfer->naks;
     int answer = answer_of(transfer);
     if (answer == TIRNOUCH_GONE)
         leave_by_itself(device);
     if (is_lost(transfer->handle))
         return end_for_absence(transfer);
     *waits = answer == TIRNOUCH_NOT_READY;
+    if (*waits && is_first && process.bus.is_traced)
+        trace_wait(device, public_of(transfer)->buffer);
     if (!*waits)
         end_request(transfer, answer);
     return !*waits;

@@ -88,7 +88,7 @@ int cancel(struct transfer *transfer, enum ask ask)
     if (transfer->stage == QUEUED)
         leave(&transfer->pipe->queue, transfer);
     else if (transfer->stage == AT_CONTROL)
-        leave(&process.bus.controls, transfer);
+        leave_unanswered(transfer, expires ? "TIMED_OUT" : "CANCELLED");
     else
         return r;
     end_transfer(transfer, expires ? LIBUSB_TRANSFER_TIMED_OUT : LIBUSB_TRANSFER_CANCELLED, transfer->moved);

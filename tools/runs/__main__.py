@@ -17,8 +17,8 @@ many buses there are texts, FILE.2 and so on.
 
 The modules, from below: program (a process group, and its end); traces (the files of a run's steps); judged (whether a run wrote what is
 expected); limit (a run that is watched, and ended when its time is over); seeds (many runs); shown (what is told of them). Of captures:
-capture (its events), recorded (a run that makes one), text (what is made of one). Of traces: retold (what moved in a run), repeated (the
-text that is made of that)."""
+capture (its events), recorded (a run that makes one), text (what is made of one). Of traces: retold (what moved in a run), unanswered (its
+requests that had no answer), repeated (the text that is made of that)."""
 import argparse
 import ctypes
 import pathlib

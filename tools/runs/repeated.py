@@ -10,10 +10,11 @@ from capture import pcap
 from event import CONTROL, Event
 from program import tell
 from retold import Device, Run, Said, Unusable, buses_of
+from unanswered import MOST_ANSWERS, request_lines, unanswered
 
 REFUSED = 2
-# A text has at most so many devices that are scripted, and a line so many answers.
-MOST_DEVICES, MOST_ANSWERS = 4, 65536
+# A text has at most so many devices that are scripted.
+MOST_DEVICES = 4
 INTERFACE, HUB, VENDOR_SPECIFIC = 4, 9, 0xFF
 READ_CONFIGURATION = b"\x80\x06\x00\x02"
 # Comments name packets of the capture that was made; of the trace they are lines.
@@ -101,8 +102,9 @@ class Lines:
         return [f"device {self.number} {self.device.config}", *named, *more, *rest, self.say("lasts", "")]
 
     def answers(self, recorded: Sequence[str]) -> List[str]:
-        """How it answers; with what it didn't take at the end."""
+        """How it answers; with what it didn't take at the end, and the requests that it didn't answer."""
         waiting, lines = left_waiting(self.device.events), []
+        silent = unanswered(self.device.events)
         counts: Dict[str, int] = {}
         for line in recorded:
             word, _, rest = line.partition(" 0 ")
@@ -112,11 +114,12 @@ class Lines:
                 waits = int(ep, 16) in waiting and counts[ep] < MOST_ANSWERS
                 lines.append(self.say(word, f" {rest}{' a' if waits else ''}"))
                 lines += [self.say("after", f" {ep} {counts[ep]} 00 {NEVER}")] if waits else []
-            elif word in ("control", "after"):
+            elif word == "after" or (word == "control" and " ".join(rest.split(" ", 4)[:4]) not in silent):
                 lines.append(self.say(word, f" {rest}"))
             elif line.startswith("#") and not line.startswith("# device 0 was "):
                 lines.append(self.in_trace(line))
-        return [*lines, *self.departure(counts)]
+        requests = [line for fields, answers in silent.items() for line in request_lines(self.number, fields, answers)]
+        return [*lines, *requests, *self.departure(counts)]
 
     def departure(self, counts: Dict[str, int]) -> List[str]:
         """It left behind the last answer of an endpoint, where the text said so and it came to that."""

@@ -18,7 +18,8 @@ SUCCESSOR = re.compile(r"# device (\d+) comes back as device (\d+)")
 MOVES = re.compile(r"# device (\d+) goes on in another session\b.*")
 SAID = re.compile(r"# (descriptor|string|speed|driver|hidden|lasts|leaves) (\d+)((?: .*)?)")
 REQUEST = re.compile(r"# request (\d+) ([0-9a-f]{2}) ([0-9a-f]{2}) ([0-9a-f]{4}) ([0-9a-f]{4}) (\d+) "
-                     r"(?:(STALL|ERROR)|COMPLETED (\d+) ([0-9a-f]*))")
+                     r"(?:(?P<fault>STALL|ERROR)|(?:COMPLETED (?P<moved>\d+)|(?P<waits>waits)) ?(?P<data>(?:[0-9a-f]{2})*))")
+UNANSWERED = re.compile(r"# request (\d+) (?:CANCELLED|TIMED_OUT|NO_DEVICE)")
 DEVICE = re.compile(r"device (\d+) ([0-9a-fA-F]+)")
 UNPLUG = re.compile(r"unplug (\d+)")
 LOOKED_AT = ("#", "device ", "unplug ")
@@ -26,7 +27,7 @@ LOOKED_AT = ("#", "device ", "unplug ")
 STATUSES = {None: 0, "STALL": -32, "ERROR": -71}
 WITHDRAWN = -2
 # The ids of requests: those of `usbtrace capture` for control transfers lie above, and those of transfers below.
-FIRST_REQUEST = (1 << 64) - (1 << 33)
+FIRST_REQUEST, END_OF_REQUESTS = (1 << 64) - (1 << 33), (1 << 64) - (1 << 32)
 # A further session counts its transfers anew.
 SESSION = 1 << 48
 READS, ASKS_TO_READ = 0x80, 0x200
@@ -60,24 +61,35 @@ class Device:
         return f"{int.from_bytes(raw[8:10], 'little'):04x}:{int.from_bytes(raw[10:12], 'little'):04x}"
 
 
-def request_events(line: int, there: int, found: "re.Match[str]") -> Tuple[Event, Event]:
-    """The submission of a request and its end, which a trace has as one comment."""
+def submission_of(line: int, there: int, found: "re.Match[str]") -> Event:
+    """The submission of a request, with what it writes, as far as the trace has that."""
     kind, number = int(found[2], 16), int(found[3], 16)
-    length, data = int(found[6]), bytes.fromhex(found[9] or "")
+    reads, length = kind & READS, int(found[6])
     words = (int(found[4], 16), int(found[5], 16), length)
     setup = bytes([kind, number]) + b"".join(it.to_bytes(2, "little") for it in words)
-    reads = kind & READS
-    it = Event(FIRST_REQUEST + line, "S", CONTROL, reads, there + 1, 1, line // 1_000_000, line % 1_000_000, IN_PROGRESS, length, setup,
-               ASKS_TO_READ if reads else 0, b"" if reads else data, line)
-    return it, it._replace(kind="C", status=STATUSES[found[7]], length=int(found[8] or 0), setup=None, flags=0,
-                           data=data if reads else b"")
+    return Event(FIRST_REQUEST + line, "S", CONTROL, reads, there + 1, 1, line // 1_000_000, line % 1_000_000, IN_PROGRESS, length, setup,
+                 ASKS_TO_READ if reads else 0, b"" if reads else bytes.fromhex(found["data"] or ""), line)
+
+
+def end_of(it: Event, line: int, there: int, found: "re.Match[str]") -> Event:
+    """The end of a request."""
+    return it._replace(kind="C", device=there + 1, seconds=line // 1_000_000, microseconds=line % 1_000_000, status=STATUSES[found["fault"]],
+                       length=int(found["moved"] or 0), setup=None, flags=0, data=bytes.fromhex(found["data"] or "") if it.ep else b"",
+                       frame=line)
+
+
+def is_request(it: Event) -> bool:
+    """Whether it is of a request that the trace tells of, and not of one that `usbtrace capture` makes of a step."""
+    return FIRST_REQUEST <= it.id < END_OF_REQUESTS
 
 
 class Session:
     """One file: a session of a core. Its devices have the numbers that they have there."""
 
-    def __init__(self, file: pathlib.Path, own: Optional[int] = None) -> None:
+    def __init__(self, file: pathlib.Path, own: Optional[int] = None, waiting: Optional[Dict[int, Event]] = None) -> None:
         self.file, self.own = file, own
+        # The request that waits at a device of the text, from the session before on.
+        self.waiting: Dict[int, Event] = dict(waiting or {})
         self.devices: Dict[int, str] = {}
         self.numbers: Dict[int, int] = {} if own is None else {own: 0}
         self.said: Dict[int, List[Said]] = {}
@@ -102,7 +114,9 @@ class Session:
 
     def read_line(self, line: int, text: str) -> None:
         if found := REQUEST.fullmatch(text):
-            self.requests += request_events(line, self.there(int(found[1])), found)
+            self.read_request(line, found)
+        elif found := UNANSWERED.fullmatch(text):
+            self.waiting.pop(int(found[1]), None)
         elif found := DEVICE.fullmatch(text):
             self.devices[int(found[1])] = found[2]
         elif found := SAID.fullmatch(text):
@@ -117,6 +131,20 @@ class Session:
             self.moves[int(found[1])] = line
         elif found := UNPLUG.fullmatch(text):
             self.unplugged.append(int(found[1]))
+
+    def read_request(self, line: int, found: "re.Match[str]") -> None:
+        """A request is told where it waits and where it is answered, or there alone; a device has one at a time. One without an answer stays
+        without an end."""
+        device = int(found[1])
+        there = self.there(device)
+        it = None if found["waits"] else self.waiting.pop(device, None)
+        if not it:
+            it = submission_of(line, there, found)
+            self.requests.append(it)
+        if found["waits"]:
+            self.waiting[device] = it
+        else:
+            self.requests.append(end_of(it, line, there, found))
 
     def leads_on(self, device: int) -> bool:
         """Whether a device has a core of its own from the beginning, or goes on in one."""
@@ -147,13 +175,13 @@ def own_sessions(shared: Session) -> Iterator[Session]:
         first = pathlib.Path(f"{shared.file}.d{device}")
         if not first.is_file():
             raise Unusable(f"{first} isn't there, which has the steps of device {device}: keep it beside {shared.file}")
-        before = Session(first, device)
+        before = Session(first, device, shared.waiting)
         yield before
         for number in range(2, 1_000_000):
             file = pathlib.Path(f"{first}.{number}")
             if not file.is_file() or (file.stat().st_mtime < before.file.stat().st_mtime and not before.moves):
                 break
-            before = Session(file, device)
+            before = Session(file, device, before.waiting)
             yield before
 
 

@@ -6,6 +6,7 @@
 #include <stdio.h>
 #include <stdlib.h>
 #include <string.h>
+#include <unistd.h>
 
 #define FROM_DEVICE 0x81
 #define TO_DEVICE 0x02
@@ -50,22 +51,32 @@ static void flip(unsigned char *data)
     flips = 0;
 }
 
-static void ask(uint8_t request, int length)
+static void ask_for(uint8_t request, int length, unsigned milliseconds)
 {
     unsigned char data[4096];
-    int r = libusb_control_transfer(handle, VENDOR_IN, request, 0, 0, data, (uint16_t)length, SECOND);
+    int r = libusb_control_transfer(handle, VENDOR_IN, request, 0, 0, data, (uint16_t)length, milliseconds);
     show("asked", r, data, r > 0 ? r : 0);
 }
 
-static void tell(uint8_t request, int length)
+static void ask(uint8_t request, int length)
+{
+    ask_for(request, length, SECOND);
+}
+
+static void tell_for(uint8_t request, int length, unsigned milliseconds)
 {
     unsigned char data[4096];
     for (int i = 0; i < length; i++)
         data[i] = (unsigned char)(request + i);
     if (length)
         flip(data);
-    int r = libusb_control_transfer(handle, VENDOR_OUT, request, 7, 1, data, (uint16_t)length, SECOND);
+    int r = libusb_control_transfer(handle, VENDOR_OUT, request, 7, 1, data, (uint16_t)length, milliseconds);
     printf("told: %d\n", r);
+}
+
+static void tell(uint8_t request, int length)
+{
+    tell_for(request, length, SECOND);
 }
 
 static void take(int length)
@@ -157,6 +168,63 @@ static int lists(void)
 static void LIBUSB_CALL on_end(struct libusb_transfer *transfer)
 {
     *(int *)transfer->user_data = 1;
+}
+
+/* A request to read that is in flight for a while; whether it ended so far. */
+static struct libusb_transfer *begin_asking(uint8_t request, unsigned char *setup, int *ended)
+{
+    struct libusb_transfer *transfer = libusb_alloc_transfer(0);
+    libusb_fill_control_setup(setup, VENDOR_IN, request, 0, 0, 8);
+    libusb_fill_control_transfer(transfer, handle, setup, on_end, ended, 0);
+    if (libusb_submit_transfer(transfer))
+        exit(12);
+    libusb_handle_events_timeout_completed(NULL, &(struct timeval){ 0, SOON * 1000 }, ended);
+    printf("%s\n", *ended ? "too soon" : "it waits");
+    return transfer;
+}
+
+/* Requests that aren't answered: before answers and behind them, until their time is over; one that is cancelled, and whose answer comes to
+ * the next; and one that waits as its handle is closed. */
+static int silent(void)
+{
+    unsigned char setup[16];
+    int ended = 0;
+    begin(0x0001);
+    ask_for(1, 8, SOON);
+    ask(1, 8);
+    ask(1, 8);
+    ask_for(1, 8, SOON);
+    ask_for(1, 8, SOON);
+    ask(1, 8);
+    ask_for(1, 8, SOON);
+    ask_for(1, 8, SOON);
+    tell(2, 3);
+    tell_for(2, 3, SOON);
+    tell(2, 3);
+    struct libusb_transfer *transfer = begin_asking(3, setup, &ended);
+    libusb_cancel_transfer(transfer);
+    while (!ended)
+        libusb_handle_events_completed(NULL, &ended);
+    printf("cancelled: %d\n", transfer->status == LIBUSB_TRANSFER_CANCELLED);
+    libusb_free_transfer(transfer);
+    ask(3, 8);
+    ended = 0;
+    transfer = begin_asking(4, setup, &ended);
+    end();
+    libusb_free_transfer(transfer);
+    return 0;
+}
+
+/* The process ends while a request waits. */
+static int vanishes(void)
+{
+    unsigned char setup[16];
+    int ended = 0;
+    begin(0x0001);
+    ask(3, 8);
+    begin_asking(3, setup, &ended);
+    fflush(stdout);
+    _exit(0);
 }
 
 /* A read that is in flight while a request is made for it. */
@@ -330,6 +398,16 @@ static int counts(void)
     return end();
 }
 
+/* One that isn't ready for a request before a packet was written. */
+static int readies(void)
+{
+    begin(0x0001);
+    ask_for(1, 300, SOON);
+    put(1, 1);
+    ask(1, 300);
+    return end();
+}
+
 /* Two buses, which do the same; or the second another thing. */
 static int twice(void)
 {
@@ -358,9 +436,10 @@ int main(int count, char **words)
         const char *name;
         int (*run)(void);
     } kinds[] = {
-        { "requests", requests }, { "tells", tells }, { "lists", lists }, { "waits", waits }, { "threads", threads }, { "stalls", stalls },
-        { "resets", resets }, { "returns", returns }, { "loader", loader }, { "large", large }, { "counts", counts },
-        { "twice", twice }, { "otherwise", otherwise },
+        { "requests", requests }, { "silent", silent }, { "vanishes", vanishes }, { "tells", tells }, { "lists", lists },
+        { "waits", waits }, { "threads", threads }, { "stalls", stalls }, { "resets", resets }, { "returns", returns },
+        { "loader", loader }, { "large", large }, { "counts", counts }, { "readies", readies }, { "twice", twice },
+        { "otherwise", otherwise },
     };
     setvbuf(stdout, NULL, _IOLBF, 0);
     flips = count > 2 && !strcmp(words[2], "changed");
