@@ -1,0 +1,110 @@
+//! A library with one caller, from its beginning to its end.
+
+ghost use Rattle.std.specs.Prelude.{◌≡◌, IfOk};
+
+use crate::board::Board;
+use crate::call::Call;
+use crate::single::Single;
+use anyhow::{Result, anyhow};
+use example_devices::devices;
+use std::alloc::Global;
+use std::marker::Brand;
+use std::sync::Wait;
+use usb_device::TableDevice;
+use usb_journal::{Journal, Naming, Place, Row};
+use usb_library::{Caller, Ended, Library, Opening};
+
+/// The library of a scene with one caller.
+type Shared<L> = Library<L, u8, TableDevice, Journal>;
+
+/// What a scene leaves.
+#[derive(Drop)]
+pub struct Left {
+    /// The steps in a row that each call for such made.
+    pub rows: Vec<Row>,
+    /// What was kept with the results that went out.
+    pub kept: Vec<u8>,
+    /// The places of the journal.
+    pub places: Vec<Place>,
+    /// Whether nothing was left to be done.
+    pub at_rest: bool,
+}
+
+/// Ends a library. None where a caller is missing.
+fn ended<L: Naming>(
+    alloc: Global,
+    library: Shared<L>,
+    callers: Vec<Caller<L>>,
+) -> Option<Ended<L, u8, TableDevice, Journal>>
+    requires { L.parts ≡ 1025 }
+{
+    library.finish(callers, Vec::new(alloc)).ok()
+}
+
+/// What a scene leaves whose library left this, and its caller that.
+fn gathered<L: Naming>(
+    alloc: Global,
+    ended: Ended<L, u8, TableDevice, Journal>,
+    single: Single,
+) -> Result<Left> {
+    let Single { rows, kept, .. } = single;
+    Ok(Left {
+        rows,
+        kept,
+        places: ended.to_places(alloc)?,
+        at_rest: ended.is_at_rest(),
+    })
+}
+
+/// One caller of a library makes these calls.
+fn made<L: Naming, R: Wait>(
+    rt: &R,
+    alloc: Global,
+    library: &Shared<L>,
+    calls: &[Call],
+) -> Result<(Caller<L>, Single)> {
+    let mut caller = library.caller(rt)?;
+    let mut single = Single::new(alloc)?;
+    let mut board = Board {
+        rt,
+        library,
+        caller: &mut caller,
+    };
+    single.make_all(&mut board, calls)?;
+    Ok((caller, single))
+}
+
+/// What these calls leave of a library that is made of this.
+fn live<L: Naming, R: Wait>(
+    rt: &R,
+    alloc: Global,
+    opening: Opening<TableDevice>,
+    calls: &[Call],
+) -> Result<Left>
+    requires name { opening.name ≡ L.name }
+    requires parts { (L.parts ≡ 1025) × (opening.parts ≡ L.parts) }
+    requires table { opening.table ≡ L.table }
+    requires setup { opening.setup ≡ L.setup }
+{
+    let library = Library::new(alloc, opening)?;
+    let (caller, single) = made::<L, R>(rt, alloc, &library, calls)?;
+    match ended(alloc, library, Vec::from_array(alloc, [caller])?) {
+        Some(ended) => gathered(alloc, ended, single),
+        None => Err(anyhow!("a caller is missing")),
+    }
+}
+
+/// What a library is made of, over so many devices whose endpoints 81 and 83 answer with packets of these sizes.
+pub fn opening(alloc: Global, count: u8, sizes: &[u16]) -> Result<Opening<TableDevice>>
+    ensures { IfOk result (λ o. o.parts ≡ 1025) }
+{
+    match Opening::new(alloc, devices(alloc, count, 8, sizes)?) {
+        Ok(opening) => Ok(opening),
+        Err(_) => Err(anyhow!("no memory")),
+    }
+}
+
+/// What these calls leave of a library over one device whose endpoints 81 and 83 answer with packets of these sizes.
+pub fn play<R: Wait>(rt: &R, alloc: Global, sizes: &[u16], calls: &[Call]) -> Result<Left> {
+    live::<Brand, R>(rt, alloc, opening(alloc, 1, sizes)?, calls)
+}
