@@ -1,4 +1,4 @@
-//! A library with one caller, from its beginning to its end.
+//! A library of which one caller makes calls, from its beginning to its end.
 
 ghost use Rattle.std.specs.Prelude.{◌≡◌, IfOk};
 
@@ -9,10 +9,15 @@ use anyhow::{Result, anyhow};
 use example_devices::devices;
 use std::alloc::Global;
 use std::marker::Brand;
+use std::result;
 use std::sync::Wait;
 use usb_device::TableDevice;
 use usb_journal::{Journal, Naming, Place, Row};
 use usb_library::{Caller, Ended, Library, Opening};
+use usb_model::Refused;
+
+/// How many callers a library has at most.
+const CALLERS: u32 = 1024;
 
 /// The library of a scene with one caller.
 type Shared<L> = Library<L, u8, TableDevice, Journal>;
@@ -47,6 +52,9 @@ fn gathered<L: Naming>(
     ended: Ended<L, u8, TableDevice, Journal>,
     single: Single,
 ) -> Result<Left> {
+    if ended.made != CALLERS {
+        return Err(anyhow!("another number of callers was made"));
+    }
     let Single { rows, kept, .. } = single;
     Ok(Left {
         rows,
@@ -56,22 +64,58 @@ fn gathered<L: Naming>(
     })
 }
 
-/// One caller of a library makes these calls.
+/// One caller more, where there may be one.
+fn one_more<L: Naming, R: Wait>(rt: &R, library: &Shared<L>) -> result::Result<Caller<L>, Refused> {
+    library.caller(rt)
+}
+
+/// All callers that a library can have. An error unless one more is refused.
+fn all_callers<L: Naming, R: Wait>(
+    rt: &R,
+    alloc: Global,
+    library: &Shared<L>,
+) -> Result<Vec<Caller<L>>> {
+    let mut callers = Vec::new(alloc);
+    for _ in 0..CALLERS {
+        callers.push(one_more(rt, library)?)?;
+    }
+    match one_more(rt, library) {
+        Err(Refused::Busy) => Ok(callers),
+        _ => Err(anyhow!("there is a caller too many")),
+    }
+}
+
+/// The caller makes these calls.
 fn made<L: Naming, R: Wait>(
     rt: &R,
     alloc: Global,
     library: &Shared<L>,
+    caller: &mut Caller<L>,
     calls: &[Call],
-) -> Result<(Caller<L>, Single)> {
-    let mut caller = library.caller(rt)?;
+) -> Result<Single> {
     let mut single = Single::new(alloc)?;
     let mut board = Board {
         rt,
         library,
-        caller: &mut caller,
+        caller,
     };
     single.make_all(&mut board, calls)?;
-    Ok((caller, single))
+    Ok(single)
+}
+
+/// The last of all callers that there can be makes these calls: all of them, and what it was left with.
+fn made_by_last<L: Naming, R: Wait>(
+    rt: &R,
+    alloc: Global,
+    library: &Shared<L>,
+    calls: &[Call],
+) -> Result<(Vec<Caller<L>>, Single)> {
+    let mut callers = all_callers(rt, alloc, library)?;
+    let Some(last) = callers.last_mut() else {
+        return Err(anyhow!("no caller"));
+    };
+    let single = made(rt, alloc, library, last, calls)?;
+    Ok((callers, single))
 }
 
 /// What these calls leave of a library that is made of this.
@@ -86,9 +130,9 @@ fn live<L: Naming, R: Wait>(
     requires table { opening.table ≡ L.table }
     requires setup { opening.setup ≡ L.setup }
 {
-    let library = Library::new(alloc, opening)?;
-    let (caller, single) = made::<L, R>(rt, alloc, &library, calls)?;
-    match ended(alloc, library, Vec::from_array(alloc, [caller])?) {
+    let library = Library::<L, u8, TableDevice, Journal>::new(alloc, opening)?;
+    let (callers, single) = made_by_last(rt, alloc, &library, calls)?;
+    match ended(alloc, library, callers) {
         Some(ended) => gathered(alloc, ended, single),
         None => Err(anyhow!("a caller is missing")),
     }

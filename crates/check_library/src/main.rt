@@ -97,7 +97,9 @@ fn print_rows<R: Print>(rt: &R, left: &Left) -> Result<()> {
 
 /// Plays the scenes of one caller.
 fn play_calls<R: Wait + Print>(rt: &R, alloc: Global) -> Result<()> {
-    println!(rt; "calls: what the journal has of each, and what was kept with the results")?;
+    println!(rt;
+        "calls, by the last of 1024 callers, more than which there can't be: what the journal has of each, and what was kept with the results"
+    )?;
     print_left(rt, &played(rt, alloc, &TWO_SIZES, &CALLS)?)?;
     println!(rt;
         "rows: at consecutive places, as many steps as there is something to do, and no more than asked for"
