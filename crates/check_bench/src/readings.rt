@@ -1,5 +1,7 @@
 //! Events read against the line of their endpoint.
 
+ghost use Rattle.std.specs.Prelude.{◌+◌, ◌<◌, ◌^◌};
+
 use bitflags::Flags as _;
 use usb_model::Flags;
 use usb_tables::{Reading, Target};
@@ -34,6 +36,7 @@ fn event(turn: u64) -> Trb {
 pub struct Readings {
     address: u64,
     target: Target,
+    ghost small: { target.before + target.here < 2 ^ 32 },
 }
 
 impl Readings {
@@ -52,7 +55,16 @@ impl Readings {
         }
     }
 
-    /// What an event tells of the line, where it points at the TRB there.
+    /// What an event with these fields tells of the line.
+    fn told(&self, address: u64, residual: Residual, code: u8) -> Reading {
+        if address == self.address {
+            self.target.read(residual, code)
+        } else {
+            Reading::Stray
+        }
+    }
+
+    /// What an event tells of the line.
     fn read(&self, event: &Trb) -> Reading {
         match event.kind {
             TrbKind::TransferEvent {
@@ -60,7 +72,7 @@ impl Readings {
                 residual,
                 code,
                 ..
-            } if pointer.address() == self.address => self.target.read(residual, code),
+            } => self.told(pointer.address(), residual, code),
             _ => Reading::Stray,
         }
     }

@@ -94,21 +94,32 @@ fn told(residual: Residual, code: u8) -> Reading {
     target.read(residual, code)
 }
 
+/// What an event is that has these fields.
+fn meant_by(address: u64, residual: Residual, code: u8) -> Meaning {
+    if address == ADDRESS {
+        Meaning::OfRead(told(residual, code))
+    } else {
+        Meaning::Elsewhere
+    }
+}
+
+/// What a TRB is to the read.
+fn of_trb(trb: &Trb) -> Meaning {
+    match trb.kind {
+        TrbKind::TransferEvent {
+            pointer,
+            residual,
+            code,
+            ..
+        } => meant_by(pointer.address(), residual, code),
+        _ => Meaning::Elsewhere,
+    }
+}
+
 /// What is read from these bytes.
 fn read(bytes: &[u8; 16]) -> Meaning {
     match decode(bytes) {
-        Ok(
-            Trb {
-                kind: TrbKind::TransferEvent {
-                    pointer,
-                    residual,
-                    code,
-                    ..
-                },
-                ..
-            },
-        ) if pointer.address() == ADDRESS => Meaning::OfRead(told(residual, code)),
-        Ok(_) => Meaning::Elsewhere,
+        Ok(trb) => of_trb(&trb),
         Err(_) => Meaning::Unknown,
     }
 }
