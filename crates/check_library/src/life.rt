@@ -46,22 +46,38 @@ fn ended<L: Naming>(
     library.finish(callers, Vec::new(alloc)).ok()
 }
 
-/// What a scene leaves whose library left this, and its caller that.
-fn gathered<L: Naming>(
-    alloc: Global,
-    ended: Ended<L, u8, TableDevice, Journal>,
-    single: Single,
-) -> Result<Left> {
-    if ended.made != CALLERS {
-        return Err(anyhow!("another number of callers was made"));
+/// Whether nothing was left to be done. None where another number of callers was made than there can be.
+fn rest<L: Naming>(ended: &Ended<L, u8, TableDevice, Journal>) -> Option<bool> {
+    if ended.made == CALLERS {
+        Some(ended.is_at_rest())
+    } else {
+        None
     }
-    let Single { rows, kept, .. } = single;
-    Ok(Left {
-        rows,
-        kept,
-        places: ended.to_places(alloc)?,
-        at_rest: ended.is_at_rest(),
-    })
+}
+
+/// What was kept of the journal. The core goes.
+fn journal_of<L: Naming>(ended: Ended<L, u8, TableDevice, Journal>) -> Journal {
+    let Ended { recorder, .. } = ended;
+    recorder
+}
+
+/// The places of a library that ends, and whether nothing was left to be done.
+fn places<L: Naming>(
+    alloc: Global,
+    library: Shared<L>,
+    callers: Vec<Caller<L>>,
+) -> Result<(Vec<Place>, bool)>
+    requires { L.parts ≡ 1025 }
+{
+    let Some(ended) = ended(alloc, library, callers) else {
+        return Err(anyhow!("a caller is missing"));
+    };
+    let rest = rest(&ended);
+    let places = journal_of(ended).places(alloc)?;
+    match rest {
+        Some(at_rest) => Ok((places, at_rest)),
+        None => Err(anyhow!("another number of callers was made")),
+    }
 }
 
 /// One caller more, where there may be one.
@@ -132,10 +148,14 @@ fn live<L: Naming, R: Wait>(
 {
     let library = Library::<L, u8, TableDevice, Journal>::new(alloc, opening)?;
     let (callers, single) = made_by_last(rt, alloc, &library, calls)?;
-    match ended(alloc, library, callers) {
-        Some(ended) => gathered(alloc, ended, single),
-        None => Err(anyhow!("a caller is missing")),
-    }
+    let (places, at_rest) = places(alloc, library, callers)?;
+    let Single { rows, kept, .. } = single;
+    Ok(Left {
+        rows,
+        kept,
+        places,
+        at_rest,
+    })
 }
 
 /// What a library is made of, over so many devices whose endpoints 81 and 83 answer with packets of these sizes.

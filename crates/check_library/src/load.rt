@@ -2,7 +2,7 @@
 
 use crate::acts::{Act, CLAIM, OPEN, RELEASE_IN_TIME};
 use crate::signals::Signals;
-use crate::stage::{all_played, lived, players};
+use crate::stage::{Remains, all_played, lived, players, remains_of};
 use crate::turnstile::{NOWHERE, Turnstile};
 use anyhow::Result;
 use crossbeam_utils::sync::Parker;
@@ -103,6 +103,7 @@ where
     let gates = Turnstile::both(NOWHERE, BURST, &signals);
     let life = lived::<TableDevice, J, R>(rt, alloc, setup, gates, players)?;
     let took = start.elapsed(clock)?;
-    all_played(alloc, life.left)?;
-    Ok((took, life.kept))
+    let Remains { kept, left, .. } = remains_of(life);
+    all_played(alloc, left)?;
+    Ok((took, kept))
 }

@@ -18,18 +18,27 @@ fn is_same(alloc: Global, one: &Entry, other: &Entry) -> Result<()> {
     Ok(())
 }
 
+/// Whether a place is this handle's.
+fn is_own(place: &Place, h: Name) -> bool {
+    match place.entry.owner {
+        Some(owner) => owner == h,
+        None => false,
+    }
+}
+
 /// An error where a handle's places of a journal don't have just the entries that it is told alone.
 fn are_same(alloc: Global, places: &[Place], h: Name, alone: &[Entry]) -> Result<()> {
-    let mut rest = alone.iter();
+    let mut told: usize = 0;
     for place in places {
-        if place.entry.owner == Some(h) {
-            match rest.next() {
-                Some(entry) => is_same(alloc, &place.entry, entry)?,
-                None => return Err(anyhow!("a handle is told less alone")),
-            }
+        if is_own(place, h) {
+            let Some(entry) = alone.get(told) else {
+                return Err(anyhow!("a handle is told less alone"));
+            };
+            is_same(alloc, &place.entry, entry)?;
+            told = told.saturating_add(1);
         }
     }
-    if rest.next().is_some() {
+    if told < alone.len() {
         return Err(anyhow!("a handle is told more alone"));
     }
     Ok(())

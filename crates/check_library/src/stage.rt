@@ -19,7 +19,7 @@ use usb_model::{Entry, Reply};
 use usb_workers::{Gates, Lived, live_gated};
 
 /// What a thread leaves, or that it waited in vain.
-type Left = result::Result<Vec<Reply>, AllocError>;
+pub type Left = result::Result<Vec<Reply>, AllocError>;
 
 /// What is left of a library in a scene.
 pub type Life<'a, D, J> = Lived<SceneCallback<'a>, D, J, Left>;
@@ -85,14 +85,77 @@ pub fn all_played(alloc: Global, left: Vec<Left>) -> Result<Vec<Vec<Reply>>> {
     Ok(all)
 }
 
-/// What was seen of a library's life. An error where a thread waited in vain.
-fn seen_of<D: Device>(alloc: Global, life: Life<'_, D, Journal>) -> Result<Seen> {
+/// What is looked at of a library's life: its journal, what its threads left, and what its workers met. The core goes.
+#[derive(Drop)]
+pub struct Remains<J> {
+    /// What was kept of its journal.
+    pub kept: J,
+    /// What its threads left.
+    pub left: Vec<Left>,
+    /// How many callbacks ended early.
+    pub cuts: u64,
+    /// Whether a worker was refused memory.
+    pub lacked_memory: bool,
+}
+
+/// What is looked at of a library's life.
+pub fn remains_of<D: Device, J: Drop>(life: Life<'_, D, J>) -> Remains<J> {
+    let Lived {
+        kept,
+        left,
+        cuts,
+        lacked_memory,
+        ..
+    } = life;
+    Remains {
+        kept,
+        left,
+        cuts,
+        lacked_memory,
+    }
+}
+
+/// What was seen. An error where a thread waited in vain.
+fn seen_of(alloc: Global, remains: Remains<Journal>) -> Result<Seen> {
+    let Remains {
+        kept,
+        left,
+        cuts,
+        lacked_memory,
+    } = remains;
     Ok(Seen {
-        places: life.kept.places(alloc)?,
-        replies: all_played(alloc, life.left)?,
-        cuts: life.cuts,
-        lacked_memory: life.lacked_memory,
+        places: kept.places(alloc)?,
+        replies: all_played(alloc, left)?,
+        cuts,
+        lacked_memory,
     })
+}
+
+/// What remains of a library that lives over the devices with these players.
+fn what_remains<'a, D: Device + Send, R: Threads + Wait + Sync>(
+    rt: &R,
+    alloc: Global,
+    setup: Setup<D>,
+    gates: Gates<Turnstile<'a>>,
+    players: Vec<Player<'a>>,
+) -> result::Result<Remains<Journal>, AllocError> {
+    Ok(remains_of(lived::<D, Journal, R>(rt, alloc, setup, gates, players)?))
+}
+
+/// What these players saw. An error where a worker or a callback was held for too long.
+fn play_with<'a, D: Device + Send, R: Threads + Wait + Sync>(
+    rt: &R,
+    alloc: Global,
+    setup: Setup<D>,
+    signals: &'a Signals,
+    gates: Gates<Turnstile<'a>>,
+    players: Vec<Player<'a>>,
+) -> Result<Seen> {
+    let remains = what_remains(rt, alloc, setup, gates, players)?;
+    if signals.is_said(Mark::Late) {
+        return Err(anyhow!("a worker waited in vain"));
+    }
+    seen_of(alloc, remains)
 }
 
 /// Plays these threads over the devices, each of a handle, where workers go by rows of at most so many steps and are held at a
@@ -110,11 +173,7 @@ pub fn play<D: Device + Send, R: Threads + Wait + Sync>(
     let signals = Signals::new(alloc, threads.len(), parker.unparker().clone()?)?;
     let players = players(alloc, readers, threads, &signals, parker)?;
     let gates = Turnstile::both(stop, burst, &signals);
-    let life = lived::<D, Journal, R>(rt, alloc, setup, gates, players)?;
-    if signals.is_said(Mark::Late) {
-        return Err(anyhow!("a worker waited in vain"));
-    }
-    seen_of(alloc, life)
+    play_with(rt, alloc, setup, &signals, gates, players)
 }
 
 /// The line of an entry, behind these.
