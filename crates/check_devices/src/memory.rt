@@ -14,12 +14,17 @@ const PACKET: [u8; 8] = [1, 2, 3, 4, 5, 6, 7, 8];
 
 /// Plays the scene.
 pub fn play<P: Print>(rt: &P, alloc: Global) -> Result<()> {
-    let mut core = Core::new(alloc, both_kinds(alloc)?)?;
-    scene(alloc, &mut core, &Reader::new(1, 0, 0)?)?;
+    played(alloc)?;
     println!(rt;
         "memory for a read: refused, it stays; with just its room it goes along, and has the bytes; with more room it stays"
     )?;
     Ok(())
+}
+
+/// The scene by a core of its own, which is gone before anything is printed.
+fn played(alloc: Global) -> Result<()> {
+    let mut core = Core::new(alloc, both_kinds(alloc)?)?;
+    scene(alloc, &mut core, &Reader::new(1, 0, 0)?)
 }
 
 /// Reads of 8 bytes: before the device is open, into memory of 8 bytes, and into memory of 9.
