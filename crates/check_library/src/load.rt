@@ -2,7 +2,7 @@
 
 use crate::acts::{Act, CLAIM, OPEN, RELEASE_IN_TIME};
 use crate::signals::Signals;
-use crate::stage::{Remains, all_played, lived, players, remains_of};
+use crate::stage::{Remains, all_played, lived, players};
 use crate::turnstile::{NOWHERE, Turnstile};
 use anyhow::Result;
 use crossbeam_utils::sync::Parker;
@@ -101,9 +101,8 @@ where
     let players = players(alloc, readers, &[acts; 8], &signals, parker)?;
     let start = Instant::now(clock)?;
     let gates = Turnstile::both(NOWHERE, BURST, &signals);
-    let life = lived::<TableDevice, J, R>(rt, alloc, setup, gates, players)?;
+    let Remains { kept, left, .. } = lived::<TableDevice, J, R>(rt, alloc, setup, gates, players)?;
     let took = start.elapsed(clock)?;
-    let Remains { kept, left, .. } = remains_of(life);
     all_played(alloc, left)?;
     Ok((took, kept))
 }

@@ -22,7 +22,7 @@ use usb_workers::{Gates, Lived, live_gated};
 pub type Left = result::Result<Vec<Reply>, AllocError>;
 
 /// What is left of a library in a scene.
-pub type Life<'a, D, J> = Lived<SceneCallback<'a>, D, J, Left>;
+type Life<'a, D, J> = Lived<SceneCallback<'a>, D, J, Left>;
 
 /// What a scene saw.
 #[derive(Drop)]
@@ -60,31 +60,6 @@ pub fn players<'a>(
     Ok(players)
 }
 
-/// What a library leaves that lives over the devices with these players.
-pub fn lived<'a, D: Device + Send, J: Recorder + Send, R: Threads + Wait + Sync>(
-    rt: &R,
-    alloc: Global,
-    setup: Setup<D>,
-    gates: Gates<Turnstile<'a>>,
-    players: Vec<Player<'a>>,
-) -> result::Result<Life<'a, D, J>, AllocError>
-where
-    J::Draft: Send,
-{
-    live_gated::<SceneCallback<'a>, D, J, Turnstile<'a>, Player<'a>, R>(
-        rt, alloc, setup, gates, players,
-    )
-}
-
-/// What all threads were answered. An error where one waited in vain.
-pub fn all_played(alloc: Global, left: Vec<Left>) -> Result<Vec<Vec<Reply>>> {
-    let mut all = Vec::new(alloc);
-    for played in left {
-        all.push(played.map_err(|_| anyhow!("a thread waited in vain"))?)?;
-    }
-    Ok(all)
-}
-
 /// What is looked at of a library's life: its journal, what its threads left, and what its workers met. The core goes.
 #[derive(Drop)]
 pub struct Remains<J> {
@@ -99,7 +74,7 @@ pub struct Remains<J> {
 }
 
 /// What is looked at of a library's life.
-pub fn remains_of<D: Device, J: Drop>(life: Life<'_, D, J>) -> Remains<J> {
+fn remains_of<D: Device, J: Drop>(life: Life<'_, D, J>) -> Remains<J> {
     let Lived {
         kept,
         left,
@@ -113,6 +88,32 @@ pub fn remains_of<D: Device, J: Drop>(life: Life<'_, D, J>) -> Remains<J> {
         cuts,
         lacked_memory,
     }
+}
+
+/// What remains of a library that lives over the devices with these players.
+pub fn lived<'a, D: Device + Send, J: Recorder + Send, R: Threads + Wait + Sync>(
+    rt: &R,
+    alloc: Global,
+    setup: Setup<D>,
+    gates: Gates<Turnstile<'a>>,
+    players: Vec<Player<'a>>,
+) -> result::Result<Remains<J>, AllocError>
+where
+    J::Draft: Send,
+{
+    let life = live_gated::<SceneCallback<'a>, D, J, Turnstile<'a>, Player<'a>, R>(
+        rt, alloc, setup, gates, players,
+    )?;
+    Ok(remains_of(life))
+}
+
+/// What all threads were answered. An error where one waited in vain.
+pub fn all_played(alloc: Global, left: Vec<Left>) -> Result<Vec<Vec<Reply>>> {
+    let mut all = Vec::new(alloc);
+    for played in left {
+        all.push(played.map_err(|_| anyhow!("a thread waited in vain"))?)?;
+    }
+    Ok(all)
 }
 
 /// What was seen. An error where a thread waited in vain.
@@ -131,17 +132,6 @@ fn seen_of(alloc: Global, remains: Remains<Journal>) -> Result<Seen> {
     })
 }
 
-/// What remains of a library that lives over the devices with these players.
-fn what_remains<'a, D: Device + Send, R: Threads + Wait + Sync>(
-    rt: &R,
-    alloc: Global,
-    setup: Setup<D>,
-    gates: Gates<Turnstile<'a>>,
-    players: Vec<Player<'a>>,
-) -> result::Result<Remains<Journal>, AllocError> {
-    Ok(remains_of(lived::<D, Journal, R>(rt, alloc, setup, gates, players)?))
-}
-
 /// What these players saw. An error where a worker or a callback was held for too long.
 fn play_with<'a, D: Device + Send, R: Threads + Wait + Sync>(
     rt: &R,
@@ -151,7 +141,7 @@ fn play_with<'a, D: Device + Send, R: Threads + Wait + Sync>(
     gates: Gates<Turnstile<'a>>,
     players: Vec<Player<'a>>,
 ) -> Result<Seen> {
-    let remains = what_remains(rt, alloc, setup, gates, players)?;
+    let remains = lived::<D, Journal, R>(rt, alloc, setup, gates, players)?;
     if signals.is_said(Mark::Late) {
         return Err(anyhow!("a worker waited in vain"));
     }
