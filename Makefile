@@ -50,7 +50,7 @@ bench_threads: bin/bench
 # The library's side is proved and built as the gate does; rustc builds the harness and the plain forms, for the same processor.
 # The kit's C part gives both sides their memory.
 bin/bench: always
-	@tools/program.py build check_bench check_load
+	@tools/program.py build check_bench check_library
 	@rustc -O --edition 2021 -C target-cpu=x86-64-v2 bench/main.rs -o $@ \
 		-L native=bin -l static=check_bench -L native=$(KIT)/c -l static=libc_c
 
@@ -160,7 +160,7 @@ bench_c: bin/libtirnouch_core.a
 .PHONY: hostile
 hostile:
 	@tools/program.py state
-	@tools/program.py try check_calls check_random
+	@tools/program.py try check_library check_random
 	@python3 tools/hostile $(HOSTILE)
 
 # Runs as captures and captures as scenarios, tried by tshark, and by libusb over umockdev: docs/CAPTURES.md.

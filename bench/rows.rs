@@ -19,7 +19,7 @@ pub enum Work {
     Resets(Shape),
     /// Transfers through a core that isn't new. The table shows no plain form.
     Later(Shape),
-    /// Transfers through the library: crates/check_load here, and a function for the plain form.
+    /// Transfers through the library: crates/check_library here, and a function for the plain form.
     Library(fn(&Shape, u64) -> u64),
 }
 

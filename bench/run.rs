@@ -6,7 +6,7 @@ use std::process::Command;
 use std::time::Instant;
 
 /// The program of the library in threads, from the top of the repository.
-const LOAD: &str = "bin/check_load";
+const LOAD: &str = "bin/check_library";
 
 /// What a run gave.
 #[derive(Clone, Copy)]

@@ -3,7 +3,7 @@
 tools/plant_threads.py [NAME..]
 
 Each file of tools/plants/threads is a patch of code: a lock held too long, a wake that isn't made, a worker that doesn't
-wait. In a copy of the repository it is applied, and the scenes of check_threads are tried, unproved: one has to fail, or to
+wait. In a copy of the repository it is applied, and the scenes of check_library are tried, unproved: one has to fail, or to
 hang, for a minute. Some hangs are a matter of how threads happen to run, so it is tried up to three times.
 Status 1 where no scene sees a change. Needs patch; a minute or more each.
 """
@@ -51,7 +51,7 @@ def main(names):
         for plant in plants:
             patch = ["patch", "-p1", "--quiet", "-d", str(root), "-i", str(plant)]
             subprocess.run(patch, check=True)
-            shown = seen(root / "crates" / "check_threads")
+            shown = seen(root / "crates" / "check_library")
             subprocess.run([*patch, "--reverse"], check=True)
             print(f"{plant.stem}: {shown or 'NO SCENE SEES IT'}", flush=True)
             unseen += shown is None or shown.startswith(NOT_TRIED)

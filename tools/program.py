@@ -4,7 +4,7 @@
     tools/program.py try [NAME ..]    builds usbtrace unproved, or other programs, or tirnouch_c, where their files changed: a minute or two each
     tools/program.py build            builds it proved, as the gate does, crate beside crate: what isn't kept on this machine is proved
     tools/program.py build NAME ..    the same of other crates: a program as bin/NAME, a static library as bin/libNAME.a
-    tools/program.py keep             takes what the gate has just proved and built: usbtrace, check_calls and check_random
+    tools/program.py keep             takes what the gate has just proved and built: usbtrace, check_library and check_random
     tools/program.py state            says which usbtrace stands there, on standard error
     tools/program.py state NAME       how another crate was built that stands there, in a word: proved, unproved, trusted, or none
 
@@ -27,11 +27,11 @@ ROOT = pathlib.Path(__file__).resolve().parent.parent
 BIN = ROOT / "bin"
 CRATES = ROOT / "crates"
 # The programs that are taken from the gate, which tools/hostile tries.
-KEPT = ("usbtrace", "check_calls", "check_random")
+KEPT = ("usbtrace", "check_library", "check_random")
 # The kit: the folder above that of `rt`.
 KIT = pathlib.Path(shutil.which("rt") or "rt").resolve().parent.parent
 # Words with which a run of a program is short, by which it is built unproved; of others, without words.
-SHORT = {"usbtrace": ("run",), "check_random": ("refusals", "1")}
+SHORT = {"usbtrace": ("run",), "check_library": ("refusals",), "check_random": ("refusals", "1")}
 
 
 def sum_of_files(name):

@@ -14,7 +14,7 @@ refused, and once this call and all behind it. So with the threads that are made
                within six times that by the clock
 
 Prints a line for each scenario and word, and one for each wrong run; status 1 where there is one. With --same only `unharmed`
-is right, and one call at a time is refused: for `check_calls refusals` and both words of check_random, which make again what
+is right, and one call at a time is refused: for `check_library refusals` and both words of check_random, which make again what
 was refused. Needs a C compiler."""
 import argparse
 import collections

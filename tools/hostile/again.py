@@ -9,7 +9,7 @@ WORDS = ("refusals", "drives")
 
 def cases_of(asked, seeds):
     """The words of each program, which stands in bin/."""
-    return [("check_calls", "refusals"), *(("check_random", f"{word} {asked.seed + k}") for word in WORDS for k in range(seeds))]
+    return [("check_library", "refusals"), *(("check_random", f"{word} {asked.seed + k}") for word in WORDS for k in range(seeds))]
 
 
 def cases(asked):

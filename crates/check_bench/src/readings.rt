@@ -1,10 +1,11 @@
 //! Events read against the line of their endpoint.
 
-use arrayvec::ArrayVec;
+ghost use Rattle.std.specs.Prelude.{◌+◌, ◌<◌, ◌^◌};
+
 use bitflags::Flags as _;
 use usb_model::Flags;
-use usb_tables::{Placed, PlacedTrb, Reading, read_event};
-use usb_trb::{EndpointId, Length, Pointer, Residual, Slot, Trb, TrbKind};
+use usb_tables::{Reading, Target};
+use usb_trb::{EndpointId, Pointer, Residual, Slot, Trb, TrbKind};
 
 /// The address of the line's only TRB.
 const ADDRESS: u64 = 0x1002_3000;
@@ -33,24 +34,47 @@ fn event(turn: u64) -> Trb {
 /// A line of one read of 8 bytes.
 #[derive(Drop)]
 pub struct Readings {
-    line: [Placed; 1],
+    address: u64,
+    target: Target,
+    ghost small: { target.before + target.here < 2 ^ 32 },
 }
 
 impl Readings {
     pub fn new() -> Readings {
-        let length = Length::new(LENGTH).unwrap_or_default();
-        let mut trbs = ArrayVec::new();
-        trbs.push(PlacedTrb {
+        Readings {
             address: ADDRESS,
-            length,
-        });
-        let placed = Placed {
-            flags: Flags::from_bits_retain(0),
-            length: LENGTH,
-            ask: None,
-            trbs,
-        };
-        Readings { line: [placed] }
+            target: Target {
+                item: 0,
+                gone: false,
+                flags: Flags::from_bits_retain(0),
+                length: LENGTH,
+                ask: None,
+                before: 0,
+                here: LENGTH,
+            },
+        }
+    }
+
+    /// What an event with these fields tells of the line.
+    fn told(&self, address: u64, residual: Residual, code: u8) -> Reading {
+        if address == self.address {
+            self.target.read(residual, code)
+        } else {
+            Reading::Stray
+        }
+    }
+
+    /// What an event tells of the line.
+    fn read(&self, event: &Trb) -> Reading {
+        match event.kind {
+            TrbKind::TransferEvent {
+                pointer,
+                residual,
+                code,
+                ..
+            } => self.told(pointer.address(), residual, code),
+            _ => Reading::Stray,
+        }
     }
 
     pub fn turn(&self, turns: u64) -> u64 {
@@ -60,7 +84,7 @@ impl Readings {
                 item,
                 status,
                 actual,
-            } = read_event(&event(turn), &self.line)
+            } = self.read(&event(turn))
             {
                 sum = sum.wrapping_add(item as u64 ^ status as u64 ^ u64::from(actual) ^ turn);
             }

@@ -2,12 +2,11 @@
 
 ghost use Rattle.usb_device.specs.Scripts.{Takes};
 
-use crate::bench::read_steps;
 use crate::kinds::Counter;
 use crate::told::{are_told, expect};
 use anyhow::{Result, anyhow};
 use example_devices::{Reader, device};
-use std::alloc::Global;
+use std::alloc::{AllocError, Global};
 use std::sync::Arc;
 use std::sync::atomic::{AtomicU64, Ordering};
 use usb_core::{Setup, run};
@@ -30,12 +29,27 @@ pub fn play<P: Print>(rt: &P, alloc: Global) -> Result<()> {
     Ok(())
 }
 
+/// The steps of a read of 8 bytes, from the opening of the device to the end of its callback.
+fn add_read(steps: &mut Vec<Step>, reader: &Reader) -> Result<(), AllocError> {
+    let Reader { h, dev, i, ep, .. } = *reader;
+    let request = reader.read(8, 0);
+    let verdict = Verdict::Stop;
+    steps.push(Step::Open { h, dev })?;
+    steps.push(Step::Claim { h, i })?;
+    steps.push(Step::Submit { h, request })?;
+    steps.push(Step::Serve { dev, ep })?;
+    steps.push(Step::Deliver)?;
+    steps.push(Step::Take)?;
+    steps.push(Step::Answer { h, n: 0, verdict })?;
+    Ok(())
+}
+
 /// Those of a read from either device.
 fn both_steps(alloc: Global) -> Result<Vec<Step>> {
-    let mut all = Vec::from_array(alloc, read_steps(&Reader::new(1, 0, 0)?, Verdict::Stop))?;
-    let mut others = Vec::from_array(alloc, read_steps(&Reader::new(2, 1, 1)?, Verdict::Stop))?;
-    all.append(&mut others)?;
-    Ok(all)
+    let mut steps = Vec::new(alloc);
+    add_read(&mut steps, &Reader::new(1, 0, 0)?)?;
+    add_read(&mut steps, &Reader::new(2, 1, 1)?)?;
+    Ok(steps)
 }
 
 /// Both devices in a setup.

@@ -1,7 +1,6 @@
 //! Memory of the caller's that a transfer reads into.
 
-use crate::bench::make_all;
-use crate::kinds::EitherDevice;
+use crate::bench::{Numbered, PAYLOAD, make_all};
 use crate::stand::both_kinds;
 use crate::told::expect;
 use anyhow::{Result, anyhow};
@@ -10,23 +9,22 @@ use std::alloc::Global;
 use usb_core::{Core, Taken};
 use usb_model::{Buffer, Refused, Step};
 
-/// A core of the two devices, with a number for each transfer.
-type Numbered = Core<u8, EitherDevice>;
-
 /// The device's first packet.
 const PACKET: [u8; 8] = [1, 2, 3, 4, 5, 6, 7, 8];
 
-/// What is kept with a transfer.
-const PAYLOAD: u8 = 77;
-
 /// Plays the scene.
 pub fn play<P: Print>(rt: &P, alloc: Global) -> Result<()> {
-    let mut core = Core::new(alloc, both_kinds(alloc)?)?;
-    scene(alloc, &mut core, &Reader::new(1, 0, 0)?)?;
+    played(alloc)?;
     println!(rt;
         "memory for a read: refused, it stays; with just its room it goes along, and has the bytes; with more room it stays"
     )?;
     Ok(())
+}
+
+/// The scene by a core of its own, which is gone before anything is printed.
+fn played(alloc: Global) -> Result<()> {
+    let mut core = Core::new(alloc, both_kinds(alloc)?)?;
+    scene(alloc, &mut core, &Reader::new(1, 0, 0)?)
 }
 
 /// Reads of 8 bytes: before the device is open, into memory of 8 bytes, and into memory of 9.
@@ -46,9 +44,8 @@ fn scene(alloc: Global, core: &mut Numbered, reader: &Reader) -> Result<()> {
 /// The device is opened, and its interface claimed.
 fn begin(alloc: Global, core: &mut Numbered, reader: &Reader) -> Result<()> {
     let Reader { h, dev, i, .. } = *reader;
-    let steps = [Step::Open { h, dev }, Step::Claim { h, i }];
-    let mut lines = String::new(alloc);
-    make_all(alloc, core, &steps, &mut Vec::new(alloc), &mut lines)
+    let steps = Vec::from_array(alloc, [Step::Open { h, dev }, Step::Claim { h, i }])?;
+    make_all(alloc, core, steps, &mut String::new(alloc))
 }
 
 /// Submits a read of 8 bytes into this memory.

@@ -1,32 +1,29 @@
-//! What the devices took: bytes that a callback sent in the place of others, and the empty packet behind whole ones.
+//! What a device took: bytes that a callback sent in the place of others, and the empty packet behind whole ones.
 
-use crate::bench::{are_taken, call_back, make_all};
+use crate::bench::{Numbered, make_all};
 use crate::kinds::EitherDevice;
 use crate::stand::both_kinds;
 use crate::told::{expect, is_told};
-use anyhow::Result;
+use anyhow::{Result, anyhow};
 use example_devices::Reader;
 use std::alloc::{AllocError, Global};
-use usb_core::{Callback, Core, Repeat, Setup, StoredCallback};
-use usb_model::{Bytes, EpAddr, Flags, Request, Returned, Rule, Step, Verdict};
+use usb_core::{Core, Setup};
+use usb_model::{Bytes, DeviceNo, EpAddr, Flags, Request, Step, Verdict};
 
-/// What is told of a write whose callback sends other bytes, by the rules: the second is a transfer of its own.
-const OTHER_LINES: &str = "h1 done\nh1 done\nh1 number 0\nh1 ended 0 code 1\nh1 finished 0\n\
+/// What is told, by the rules: the bytes of the verdict are a transfer of its own; of the writes of 16 and of 15 bytes, by packets
+/// of 8, the former has a third packet, which is empty.
+const LINES: &str = "h1 done\nh1 done\nh1 number 0\nh1 ended 0 code 1\nh1 finished 0\n\
     h1 called 0 ep 02 round 0 COMPLETED 3 data -\nh1 number 1\nh1 ended 1 code 1\nh1 finished 1\n\
-    h1 called 1 ep 02 round 1 COMPLETED 2 data -\nh1 done\n";
+    h1 called 1 ep 02 round 1 COMPLETED 2 data -\nh1 done\n\
+    h1 number 2\nh1 moved 2 8\nh1 moved 2 8\nh1 ended 2 code 1\nh1 finished 2\n\
+    h1 called 2 ep 02 round 0 COMPLETED 16 data -\nh1 done\n\
+    h1 number 3\nh1 moved 3 8\nh1 ended 3 code 1\nh1 finished 3\n\
+    h1 called 3 ep 02 round 0 COMPLETED 15 data -\nh1 done\n";
 
-/// And of writes of 16 and of 15 bytes, by packets of 8: the former has a third packet, which is empty.
-const BOTH_LINES: &str = "h1 done\nh1 done\n\
-    h1 number 0\nh1 moved 0 8\nh1 moved 0 8\nh1 ended 0 code 1\nh1 finished 0\n\
-    h1 called 0 ep 02 round 0 COMPLETED 16 data -\nh1 done\n\
-    h1 number 1\nh1 moved 1 8\nh1 ended 1 code 1\nh1 finished 1\n\
-    h1 called 1 ep 02 round 0 COMPLETED 15 data -\nh1 done\n";
-
-/// The packets of the one.
-const OTHER_PACKETS: [&[u8]; 2] = [&[1, 2, 3], &[8, 9]];
-
-/// The packets of the others.
-const BOTH_PACKETS: [&[u8]; 5] = [
+/// The packets that the device takes.
+const PACKETS: [&[u8]; 7] = [
+    &[0, 1, 2],
+    &[0, 1],
     &[0, 1, 2, 3, 4, 5, 6, 7],
     &[8, 9, 10, 11, 12, 13, 14, 15],
     &[],
@@ -34,37 +31,40 @@ const BOTH_PACKETS: [&[u8]; 5] = [
     &[8, 9, 10, 11, 12, 13, 14],
 ];
 
-/// What is kept with these.
-const PAYLOADS: [u8; 2] = [77, 78];
-
-/// Plays the scenes of packets.
+/// Plays the scene, at each of the two devices.
 pub fn play<P: Print>(rt: &P, alloc: Global) -> Result<()> {
-    once_more(alloc)?;
+    taken_by(alloc, 0)?;
+    taken_by(alloc, 1)?;
     println!(rt; "bytes in the place of a write's: a new number, and the device takes them")?;
-    whole_and_not(alloc, 0)?;
-    whole_and_not(alloc, 1)?;
     println!(rt;
         "an empty packet behind whole ones: 16 bytes are taken as 8, 8 and 0; 15 as 8 and 7"
     )?;
     Ok(())
 }
 
-/// A callback under no rule, which answers the first round with other bytes.
-fn once_more(alloc: Global) -> Result<()> {
-    let bytes = Bytes::from_vec(Vec::from_slice(alloc, &[8, 9])?);
-    let code: Repeat = Box::new(alloc, move |returned: &Returned| -> Verdict {
-        match bytes.clone() {
-            Ok(bytes) if returned.round == 0 => Verdict::AgainWith(bytes),
-            _ => Verdict::Stop,
-        }
-    })?;
-    let callback = StoredCallback::repeat(Rule::Free, code);
-    let reader = Reader::new(1, 1, 0)?;
-    let setup = resubmitted(alloc, &reader, callback)?;
-    are_taken(&setup, reader.dev, &OTHER_PACKETS)?;
+/// A device takes the packets. The one that counts answered as often.
+fn taken_by(alloc: Global, dev: u8) -> Result<()> {
+    let reader = Reader::new(1, dev, 0)?;
+    let setup = written(alloc, &reader)?;
+    are_taken(&setup, reader.dev)?;
+    let wanted = if dev == 0 { 0 } else { PACKETS.len() as u64 };
     expect(
-        answers(setup) == Some(2),
+        answers(setup) == Some(wanted),
         "the device answered another number of times",
+    )
+}
+
+/// An error unless the device took just these packets, in this order, at the endpoint 02.
+fn are_taken(setup: &Setup<EitherDevice>, dev: DeviceNo) -> Result<()> {
+    let ep = EpAddr::new(0x02);
+    for (i, packet) in PACKETS.iter().enumerate() {
+        if setup.taken(dev, ep, i) != Some(*packet) {
+            return Err(anyhow!("packet {i} is another"));
+        }
+    }
+    expect(
+        setup.taken(dev, ep, PACKETS.len()).is_none(),
+        "there are more packets",
     )
 }
 
@@ -79,54 +79,33 @@ fn answers(setup: Setup<EitherDevice>) -> Option<u64> {
     answers
 }
 
-/// Where such a callback leaves the devices: a write of 3 bytes, and of those that it answered with.
-fn resubmitted<C: Callback>(
-    alloc: Global,
-    reader: &Reader,
-    callback: C,
-) -> Result<Setup<EitherDevice>> {
+/// Where the writes leave the devices.
+fn written(alloc: Global, reader: &Reader) -> Result<Setup<EitherDevice>> {
     let mut core = Core::new(alloc, both_kinds(alloc)?)?;
-    write_twice(alloc, &mut core, reader, callback)?;
+    write(alloc, &mut core, reader)?;
     Ok(core.into_setup())
 }
 
-/// Makes the steps of it. An error where another thing is told.
-fn write_twice<C: Callback>(
-    alloc: Global,
-    core: &mut Core<C, EitherDevice>,
-    reader: &Reader,
-    callback: C,
-) -> Result<()> {
+/// Makes the writes. An error where another thing is told.
+fn write(alloc: Global, core: &mut Numbered, reader: &Reader) -> Result<()> {
     let mut lines = String::new(alloc);
-    let mut callbacks = Vec::new(alloc);
-    callbacks.push(callback)?;
-    let bytes = Bytes::from_vec(Vec::from_slice(alloc, &[1, 2, 3])?);
-    let mut steps = Vec::from_array(alloc, begin(reader))?;
-    steps.push(Step::Submit {
-        h: reader.h,
-        request: reader.write(bytes),
-    })?;
-    make_all(alloc, core, steps.as_slice(), &mut callbacks, &mut lines)?;
-    let steps = [serve(reader), Step::Deliver];
-    for _ in 0..2 {
-        make_all(alloc, core, &steps, &mut callbacks, &mut lines)?;
-        call_back(alloc, core, &mut lines)?;
-    }
-    is_told(lines.as_str(), OTHER_LINES, "other bytes")
+    make_all(alloc, core, steps(alloc, reader)?, &mut lines)?;
+    is_told(lines.as_str(), LINES, "writes")
 }
 
-/// The device is opened, and its interface claimed.
-fn begin(reader: &Reader) -> [Step; 2] {
+/// The steps of a write of 3 bytes, whose callback sends 2 others, and of writes of 16 and 15 bytes.
+fn steps(alloc: Global, reader: &Reader) -> Result<Vec<Step>> {
     let Reader { h, dev, i, .. } = *reader;
-    [Step::Open { h, dev }, Step::Claim { h, i }]
-}
-
-/// The device takes one packet.
-fn serve(reader: &Reader) -> Step {
-    Step::Serve {
-        dev: reader.dev,
-        ep: EpAddr::new(0x02),
-    }
+    let mut steps = Vec::from_array(alloc, [Step::Open { h, dev }, Step::Claim { h, i }])?;
+    steps.push(submit(alloc, reader, 3)?)?;
+    let others = Verdict::AgainWith(numbered(alloc, 2)?);
+    add_end(&mut steps, reader, 1, 0, others)?;
+    add_end(&mut steps, reader, 1, 1, Verdict::Stop)?;
+    steps.push(submit(alloc, reader, 16)?)?;
+    add_end(&mut steps, reader, 3, 2, Verdict::Stop)?;
+    steps.push(submit(alloc, reader, 15)?)?;
+    add_end(&mut steps, reader, 2, 3, Verdict::Stop)?;
+    Ok(steps)
 }
 
 /// So many bytes, numbered from 0 on.
@@ -135,61 +114,30 @@ fn numbered(alloc: Global, count: u8) -> Result<Bytes, AllocError> {
 }
 
 /// A write of so many bytes, with an empty packet behind whole ones.
-fn write(alloc: Global, reader: &Reader, count: u8) -> Result<Request, AllocError> {
-    let mut request = reader.write(numbered(alloc, count)?);
+fn submit(alloc: Global, reader: &Reader, count: u8) -> Result<Step, AllocError> {
+    let mut request: Request = reader.write(numbered(alloc, count)?);
     request.flags = Flags::ADD_ZERO_PACKET;
-    Ok(request)
+    Ok(Step::Submit {
+        h: reader.h,
+        request,
+    })
 }
 
-/// The steps of a write of so many bytes under the next number, in so many packets, to the end of its callback.
-fn written(
-    alloc: Global,
+/// The device takes so many packets, and the transfer of this number ends with a verdict.
+fn add_end(
+    steps: &mut Vec<Step>,
     reader: &Reader,
-    n: u64,
-    count: u8,
     packets: u8,
-) -> Result<Vec<Step>, AllocError> {
-    let h = reader.h;
-    let request = write(alloc, reader, count)?;
-    let mut steps = Vec::new(alloc);
-    steps.push(Step::Submit { h, request })?;
+    n: u64,
+    verdict: Verdict,
+) -> Result<(), AllocError> {
+    let Reader { h, dev, .. } = *reader;
+    let ep = EpAddr::new(0x02);
     for _ in 0..packets {
-        steps.push(serve(reader))?;
+        steps.push(Step::Serve { dev, ep })?;
     }
     steps.push(Step::Deliver)?;
     steps.push(Step::Take)?;
-    let verdict = Verdict::Stop;
     steps.push(Step::Answer { h, n, verdict })?;
-    Ok(steps)
-}
-
-/// The steps of a write of 16 bytes and of one of 15.
-fn both_steps(alloc: Global, reader: &Reader) -> Result<Vec<Step>> {
-    let mut steps = Vec::from_array(alloc, begin(reader))?;
-    steps.append(&mut written(alloc, reader, 0, 16, 3)?)?;
-    steps.append(&mut written(alloc, reader, 1, 15, 2)?)?;
-    Ok(steps)
-}
-
-/// Makes them. An error where another thing is told.
-fn write_both(alloc: Global, core: &mut Core<u8, EitherDevice>, reader: &Reader) -> Result<()> {
-    let mut lines = String::new(alloc);
-    let mut payloads = Vec::from_array(alloc, PAYLOADS)?;
-    let steps = both_steps(alloc, reader)?;
-    make_all(alloc, core, steps.as_slice(), &mut payloads, &mut lines)?;
-    is_told(lines.as_str(), BOTH_LINES, "an empty packet")
-}
-
-/// Where these leave the devices.
-fn both_written(alloc: Global, reader: &Reader) -> Result<Setup<EitherDevice>> {
-    let mut core = Core::new(alloc, both_kinds(alloc)?)?;
-    write_both(alloc, &mut core, reader)?;
-    Ok(core.into_setup())
-}
-
-/// A device takes them in packets of 8 bytes, with an empty one behind whole ones.
-fn whole_and_not(alloc: Global, dev: u8) -> Result<()> {
-    let reader = Reader::new(1, dev, 0)?;
-    let setup = both_written(alloc, &reader)?;
-    are_taken(&setup, reader.dev, &BOTH_PACKETS)
+    Ok(())
 }

@@ -7,7 +7,7 @@ use std::alloc::Global;
 use usb_core::Setup;
 
 /// The sizes of the packets to the host, in bytes; as many packets from it are taken.
-const SIZES: [u16; 5] = [8; 5];
+const SIZES: [u16; 7] = [8; 7];
 
 /// One device more, of either kind.
 fn add(alloc: Global, setup: &mut Setup<EitherDevice>, counts: bool) -> Result<()> {

@@ -1,107 +1,127 @@
-//! What events tell of the transfers of a line (xHCI 1.2, 4.11.3).
+//! What events tell of a read of 8 bytes (xHCI 1.2, 4.11.3), by `Target::read`, as the core reads them.
 
 use crate::changed::flipped;
-use crate::expect::{expect, present};
-use anyhow::{Result, anyhow};
-use arrayvec::ArrayVec;
+use crate::expect::expect;
+use anyhow::Result;
 use bitflags::Flags as _;
 use usb_model::{Ask, Flags, Status};
-use usb_tables::{Placed, PlacedTrb, Reading, read_event, result};
-use usb_trb::{Length, TrbKind, decode};
+use usb_tables::{Reading, Target, result};
+use usb_trb::{Residual, Trb, TrbKind, decode};
 
 /// Plays the scenes of events.
 pub fn play<P: Print>(rt: &P) -> Result<()> {
-    short_packet()?;
-    println!(rt; "a residual of 5 in a read of 8 bytes, code 13: it completes with 3 bytes")?;
-    strays()?;
-    println!(rt;
-        "a residual of 9 in a read of 8 bytes, or a pointer one TRB on: the event is stray"
+    let (item, status, actual) = (0, Status::Completed, 3);
+    is_read(
+        &SHORT,
+        Reading::Ended {
+            item,
+            status,
+            actual,
+        },
     )?;
+    println!(rt; "a residual of 5 in a read of 8 bytes, code 13: it completes with 3 bytes")?;
+    is_read(&OVER, Reading::Stray)?;
+    println!(rt; "a residual of 9 in a read of 8 bytes: the event is stray")?;
     withdrawn()?;
     println!(rt; "a withdrawn transfer: it has the status of its ask")?;
     let Kinds {
         unknown,
+        elsewhere,
         stray,
         ended,
         ..
     } = flipped_bits(&SHORT)?;
     println!(rt;
-        "that event, each bit flipped: {unknown} are unknown, {stray} stray, and {ended} end the read as code and residual say"
+        "that event, each bit flipped: {unknown} are unknown, {elsewhere} of another TRB, {stray} stray, and {ended} end the read as code and residual say"
     )?;
-    let Kinds { unknown, stray, .. } = flipped_bits(&OTHER)?;
+    let Kinds {
+        unknown,
+        elsewhere,
+        ..
+    } = flipped_bits(&OTHER)?;
     println!(rt;
-        "an event of a command, each bit flipped: {unknown} are unknown, and {stray} stray"
+        "an event of a command, each bit flipped: {unknown} are unknown, and {elsewhere} of a command"
     )?;
     let Kinds { ended, paused, .. } = each_code()?;
     println!(rt; "that event with each code: {ended} end the read, and {paused} lets it stand")?;
     Ok(())
 }
 
-/// A read of 8 bytes, whose TRB has this address.
-fn in_8(address: u64) -> Result<Placed> {
-    let length = present(Length::new(8), "length of 8")?;
-    let mut trbs = ArrayVec::new();
-    trbs.push(PlacedTrb { address, length });
-    Ok(Placed {
-        flags: Flags::from_bits_retain(0),
-        length: 8,
-        ask: None,
-        trbs,
-    })
-}
+/// Where the TRB of the read stands.
+const ADDRESS: u64 = 0x1002_3000;
 
-/// A Transfer Event of slot 1, endpoint id 3, with code 13 and the cycle bit set, of the first TRB of the line below: it left
-/// 5 bytes of that TRB.
+/// A Transfer Event of slot 1, endpoint id 3, with code 13 and the cycle bit set, of the TRB of the read: it left 5 bytes
+/// of it.
 const SHORT: [u8; 16] = [0, 0x30, 2, 0x10, 0, 0, 0, 0, 5, 0, 0, 13, 1, 0x80, 3, 1];
 
 /// The same with a residual of 9, which is over the TRB's length.
 const OVER: [u8; 16] = [0, 0x30, 2, 0x10, 0, 0, 0, 0, 9, 0, 0, 13, 1, 0x80, 3, 1];
 
-/// The first again, but of the TRB one on, which isn't in the line.
-const ONE_ON: [u8; 16] = [0x10, 0x30, 2, 0x10, 0, 0, 0, 0, 5, 0, 0, 13, 1, 0x80, 3, 1];
-
 /// A Command Completion Event that points at the same TRB, with code 1.
 const OTHER: [u8; 16] = [0, 0x30, 2, 0x10, 0, 0, 0, 0, 0, 0, 0, 1, 1, 0x84, 0, 1];
 
-/// What an event tells of a line of one read of 8 bytes.
-fn told(bytes: &[u8; 16]) -> Result<Reading> {
-    let event = decode(bytes)?;
-    if !matches!(event.kind, TrbKind::TransferEvent { .. }) {
-        return Err(anyhow!("no Transfer Event"));
-    }
-    let line = [in_8(0x1002_3000)?];
-    Ok(read_event(&event, &line))
+/// What 16 bytes are.
+#[derive(Clone, Copy, PartialEq, Eq)]
+enum Meaning {
+    /// No TRB.
+    Unknown,
+    /// One that doesn't tell of the read's TRB.
+    Elsewhere,
+    /// An event that points at it.
+    OfRead(Reading),
 }
 
-/// A residual of 5 with code 13 completes with 3 bytes.
-fn short_packet() -> Result<()> {
-    let wanted = Reading::Ended {
+/// An error unless an event tells this of the read.
+fn is_read(bytes: &[u8; 16], wanted: Reading) -> Result<()> {
+    expect(
+        read(bytes) == Meaning::OfRead(wanted),
+        "an event of the read",
+        "it tells something else",
+    )
+}
+
+/// What an event tells that points at the one TRB of a read of 8 bytes.
+fn told(residual: Residual, code: u8) -> Reading {
+    let target = Target {
         item: 0,
-        status: Status::Completed,
-        actual: 3,
+        gone: false,
+        flags: Flags::from_bits_retain(0),
+        length: 8,
+        ask: None,
+        before: 0,
+        here: 8,
     };
-    let found = told(&SHORT)?;
-    expect(
-        found == wanted,
-        "residual of 5",
-        "the event tells something else",
-    )
+    target.read(residual, code)
 }
 
-/// An event is stray.
-fn is_stray(bytes: &[u8; 16]) -> Result<()> {
-    let found = told(bytes)?;
-    expect(
-        found == Reading::Stray,
-        "a stray event",
-        "it tells of a transfer",
-    )
+/// What an event is that has these fields.
+fn meant_by(address: u64, residual: Residual, code: u8) -> Meaning {
+    if address == ADDRESS {
+        Meaning::OfRead(told(residual, code))
+    } else {
+        Meaning::Elsewhere
+    }
 }
 
-/// A residual over the length is stray, and so is a pointer one TRB on.
-fn strays() -> Result<()> {
-    is_stray(&OVER)?;
-    is_stray(&ONE_ON)
+/// What a TRB is to the read.
+fn of_trb(trb: &Trb) -> Meaning {
+    match trb.kind {
+        TrbKind::TransferEvent {
+            pointer,
+            residual,
+            code,
+            ..
+        } => meant_by(pointer.address(), residual, code),
+        _ => Meaning::Elsewhere,
+    }
+}
+
+/// What is read from these bytes.
+fn read(bytes: &[u8; 16]) -> Meaning {
+    match decode(bytes) {
+        Ok(trb) => of_trb(&trb),
+        Err(_) => Meaning::Unknown,
+    }
 }
 
 /// The status of a read of 8 bytes of which 3 moved, and in which a short packet is an error.
@@ -129,19 +149,21 @@ fn withdrawn() -> Result<()> {
 #[derive(Clone, Copy, Default)]
 struct Kinds {
     unknown: u32,
+    elsewhere: u32,
     stray: u32,
     ended: u32,
     paused: u32,
 }
 
 impl Kinds {
-    /// One more that tells this; None of bytes that are no Transfer Event.
-    fn count(&mut self, found: Option<Reading>) {
+    /// One more that tells this.
+    fn count(&mut self, found: Meaning) {
         let kind = match found {
-            None => &mut self.unknown,
-            Some(Reading::Stray) => &mut self.stray,
-            Some(Reading::Ended { .. }) => &mut self.ended,
-            Some(Reading::Paused { .. }) => &mut self.paused,
+            Meaning::Unknown => &mut self.unknown,
+            Meaning::Elsewhere => &mut self.elsewhere,
+            Meaning::OfRead(Reading::Stray) => &mut self.stray,
+            Meaning::OfRead(Reading::Ended { .. }) => &mut self.ended,
+            Meaning::OfRead(Reading::Paused { .. }) => &mut self.paused,
         };
         *kind = kind.saturating_add(1);
     }
@@ -171,21 +193,23 @@ fn wanted_status(code: u8) -> Status {
     }
 }
 
-/// What an event has to tell of the read of 8 bytes at 10023000, by its fields; None where it is no event. No more than 8 bytes
-/// can be left of it; code 26 is Stopped.
-fn wanted(bytes: &[u8; 16]) -> Option<Reading> {
+/// What bytes have to be, by their fields. No more than 8 bytes can be left of the read; code 26 is Stopped.
+fn wanted(bytes: &[u8; 16]) -> Meaning {
     if is_command_completion(bytes) {
-        return Some(Reading::Stray);
+        return Meaning::Elsewhere;
     }
     if !is_transfer_event(bytes) {
-        return None;
+        return Meaning::Unknown;
+    }
+    if bytes[..8] != SHORT[..8] {
+        return Meaning::Elsewhere;
     }
     let [residual, middle, high, code] = [bytes[8], bytes[9], bytes[10], bytes[11]];
-    if bytes[..8] != SHORT[..8] || middle != 0 || high != 0 || residual > 8 {
-        return Some(Reading::Stray);
+    if middle != 0 || high != 0 || residual > 8 {
+        return Meaning::OfRead(Reading::Stray);
     }
     let (item, actual) = (0, u32::from(8 - residual));
-    Some(match code {
+    Meaning::OfRead(match code {
         26 => Reading::Paused { item, actual },
         _ => Reading::Ended {
             item,
@@ -195,13 +219,9 @@ fn wanted(bytes: &[u8; 16]) -> Option<Reading> {
     })
 }
 
-/// What is read from these bytes; None where they are no TRB. An error unless it is what has to be.
-fn found(bytes: &[u8; 16]) -> Result<Option<Reading>> {
-    let line = [in_8(0x1002_3000)?];
-    let found = match decode(bytes) {
-        Ok(event) => Some(read_event(&event, &line)),
-        Err(_) => None,
-    };
+/// What is read from these bytes. An error unless it is what has to be.
+fn found(bytes: &[u8; 16]) -> Result<Meaning> {
+    let found = read(bytes);
     expect(
         found == wanted(bytes),
         "an event with a byte changed",

@@ -1,7 +1,6 @@
 //! Random scenarios, each run by the core and by the plain program: their entries have to be the same.
 //!
-//! With the words `fed COUNT` it runs so many scenarios whose devices are told their answers late. With `refusals SEED` it makes the steps of
-//! one scenario, with `drives SEED` it runs a plan of these steps. What it
+//! With the words `refusals SEED` it makes the steps of one scenario, with `drives SEED` it runs a plan of these steps. What it
 //! prints is the same whichever allocation was refused: what finds no memory is done again.
 //!
 //! # Files
@@ -9,18 +8,14 @@
 //! - `dice.rt`: numbers that look random, the same at each run
 //! - `scene.rt`, `steps.rt`: two devices with random scripts, for both programs; random steps
 //! - `seen.rt`, `trial.rt`: which kinds of replies were seen; one scenario, run by both
-//! - `rows.rt`: the same steps in rows and one by one, by two cores
-//! - `fed.rt`: the same steps by two cores, of which one is told its devices' answers amid the run
 //! - `plan.rt`: a plan whose callbacks are called, and what is told of it
 //! - `refusals.rt`, `drives.rt`: steps with their payloads, and a random plan, made again where memory is refused
 #![tactic(auto)]
 
 mod dice;
 mod drives;
-mod fed;
 mod plan;
 mod refusals;
-mod rows;
 mod scene;
 mod seen;
 mod steps;
@@ -51,30 +46,8 @@ fn check<R: Print>(rt: &R, alloc: Global) -> Result<()> {
     println!(rt;
         "{SCENARIOS} scenarios of {STEPS} steps: the same entries, each kind of reply among them"
     )?;
-    let mut met = rows::Met::default();
-    for seed in 0..SCENARIOS {
-        rows::run(alloc, seed, STEPS, &mut met)?;
-    }
-    met.is_all()?;
-    println!(rt; "the same in rows of packets, events and orders as one by one")?;
-    fed_all(rt, alloc, SCENARIOS)?;
     plan::run(alloc)?;
     println!(rt; "a plan whose callbacks are called: as the rules have it")?;
-    Ok(())
-}
-
-/// Runs so many scenarios whose devices are told their answers amid the run.
-fn fed_all<R: Print>(rt: &R, alloc: Global, scenarios: u64) -> Result<()> {
-    let mut fed: u64 = 0;
-    for seed in 0..scenarios {
-        fed = fed.saturating_add(fed::run(alloc, seed, STEPS)?);
-    }
-    if fed < scenarios {
-        return Err(anyhow!("few answers were told amid the runs"));
-    }
-    println!(rt;
-        "{scenarios} scenarios whose devices are told their answers amid the run: as if they had known them"
-    )?;
     Ok(())
 }
 
@@ -102,10 +75,9 @@ fn number(seed: &String) -> Result<u64> {
 fn run<R: Print>(rt: &R, alloc: Global, words: &[String]) -> Result<()> {
     match words {
         [] => check(rt, alloc),
-        [word, count] if word.as_str() == "fed" => fed_all(rt, alloc, number(count)?),
         [word, seed] if word.as_str() == "refusals" => refusals::play(rt, alloc, number(seed)?),
         [word, seed] if word.as_str() == "drives" => drives::play(rt, alloc, number(seed)?),
-        _ => Err(anyhow!("fed COUNT, refusals SEED, or drives SEED")),
+        _ => Err(anyhow!("refusals SEED, or drives SEED")),
     }
 }
 

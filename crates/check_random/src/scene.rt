@@ -1,14 +1,12 @@
 //! Two devices with random scripts, for the core and for the plain program.
 
-ghost use Rattle.std.specs.Prelude.{◌≡◌, IfOk};
-
 use crate::dice::Dice;
 use anyhow::{Result, anyhow};
 use std::alloc::{AllocError, Global};
 use usb_core::Setup;
 use usb_descriptors::{Config, read_config};
 use usb_device::TableDevice;
-use usb_model::{Bytes, Configuration, DeviceNo, DeviceSetup, EpAddr, Response, Script, Sequence};
+use usb_model::{Bytes, Configuration, DeviceSetup, EpAddr, Response, Script, Sequence};
 
 /// The endpoints that transfers can go to, and one that no device has.
 pub const ENDPOINTS: [u8; 5] = [0x81, 0x02, 0x83, 0x04, 0x85];
@@ -110,6 +108,22 @@ pub fn plain(alloc: Global, seed: u64) -> Result<usb_model::Setup> {
     Ok(setup)
 }
 
+/// One device more for the core.
+fn add(
+    alloc: Global,
+    setup: &mut Setup<TableDevice>,
+    config: Config,
+    scripts: Sequence<Script>,
+) -> Result<()> {
+    let Ok(device) = TableDevice::new(alloc, &config, scripts) else {
+        return Err(anyhow!("no device"));
+    };
+    match setup.add(alloc, config, device) {
+        Ok(()) => Ok(()),
+        Err(_) => Err(anyhow!("the device isn't added")),
+    }
+}
+
 /// The same for the core, with so many answers in a script.
 pub fn real(alloc: Global, seed: u64, answers: u8) -> Result<Setup<TableDevice>> {
     let mut dice = Dice::new(seed);
@@ -117,81 +131,9 @@ pub fn real(alloc: Global, seed: u64, answers: u8) -> Result<Setup<TableDevice>>
     for _ in 0..DEVICES {
         let config = config()?;
         let scripts = scripts(alloc, &mut dice, &config, answers)?;
-        let Ok(device) = TableDevice::new(alloc, &config, scripts) else {
-            return Err(anyhow!("no device"));
-        };
-        if setup.add(alloc, config, device).is_err() {
-            return Err(anyhow!("the device isn't added"));
-        }
+        add(alloc, &mut setup, config, scripts)?;
     }
     Ok(setup)
-}
-
-/// Answers of a device's endpoint that it doesn't know at the beginning, the last one first.
-#[derive(Drop)]
-pub struct Late {
-    /// The device.
-    pub dev: DeviceNo,
-    /// The endpoint.
-    pub ep: EpAddr,
-    /// The answers.
-    pub answers: Vec<Response>,
-}
-
-/// The first answers of a script, so many, and the others, the last one first.
-fn parted(alloc: Global, script: Script, known: usize) -> Result<(Script, Vec<Response>)> {
-    let (mut script, mut late) = (script.into_vec(), Vec::new(alloc));
-    for _ in known..script.len() {
-        if let Some(answer) = script.pop() {
-            late.push(answer)?;
-        }
-    }
-    Ok((Sequence::from_vec(script), late))
-}
-
-/// So many answers of each of a device's scripts; the others are put behind those of the devices before it.
-fn first_answers(
-    alloc: Global,
-    dev: DeviceNo,
-    scripts: Sequence<Script>,
-    known: usize,
-    late: &mut Vec<Late>,
-) -> Result<Sequence<Script>> {
-    let (mut rest, mut first) = (scripts.into_vec().into_iter(), Sequence::new(alloc));
-    for id in 0..32_u8 {
-        let ep = EpAddr::new(id / 2 + 128 * (id % 2));
-        let script = match rest.next() {
-            Some(script) => script,
-            None => Sequence::new(alloc),
-        };
-        let (script, answers) = parted(alloc, script, known)?;
-        first.push(script)?;
-        late.push(Late { dev, ep, answers })?;
-    }
-    Ok(first)
-}
-
-/// The devices of `real`, which know so many answers of each script at first; and the others.
-pub fn told_late(
-    alloc: Global,
-    seed: u64,
-    known: usize,
-) -> Result<(Setup<TableDevice>, Vec<Late>)> {
-    let (mut dice, mut late) = (Dice::new(seed), Vec::new(alloc));
-    let mut setup = Setup::new(alloc)?;
-    for number in 0..DEVICES {
-        let config = config()?;
-        let scripts = scripts(alloc, &mut dice, &config, ANSWERS)?;
-        let dev = DeviceNo::new(number).ok_or_else(|| anyhow!("no device"))?;
-        let first = first_answers(alloc, dev, scripts, known, &mut late)?;
-        let Ok(device) = TableDevice::new(alloc, &config, first) else {
-            return Err(anyhow!("no device"));
-        };
-        if setup.add(alloc, config, device).is_err() {
-            return Err(anyhow!("the device isn't added"));
-        }
-    }
-    Ok((setup, late))
 }
 
 /// One device, whose endpoint 81 answers with packets of one byte: 10, 11 and 12.
@@ -208,12 +150,7 @@ pub fn three_packets(alloc: Global) -> Result<Setup<TableDevice>> {
         script.push(Response::Data(bytes))?;
     }
     scripts.push(script)?;
-    let Ok(device) = TableDevice::new(alloc, &config, scripts) else {
-        return Err(anyhow!("no device"));
-    };
     let mut setup = Setup::new(alloc)?;
-    if setup.add(alloc, config, device).is_err() {
-        return Err(anyhow!("the device isn't added"));
-    }
+    add(alloc, &mut setup, config, scripts)?;
     Ok(setup)
 }
