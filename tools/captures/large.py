@@ -143,7 +143,7 @@ def large(machine, asked, count):
             yield f"{name}: ends with status {it.status}: {it.err[:200]!r}"
         if it.out.decode(errors="replace") != (text or ""):
             yield f"{name}: prints {len(it.out):,} other bytes: {it.out[:200]!r}"
-        if it.out and machine.usbtrace("check", it.out).status:
-            yield f"{name}: `check` doesn't take what it prints"
+        if it.out and machine.usbtrace("check", machine.ran([machine.program, "devices", "--scenario"], path).out).status:
+            yield f"{name}: `check` doesn't take what it prints as a scenario"
         if it.seconds > seconds:
             yield f"{name}: takes {it.seconds:.1f} seconds"
