@@ -80,6 +80,8 @@ class Told:
         for line, text in enumerate(scenario.decode("latin-1").split("\n"), 1):
             self.read(line, text.split(" "))
         for text in printed.decode().splitlines():
+            if text.startswith("# "):
+                continue  # behind a run stands what it wrote that isn't as expected
             step, _, entry = text.rpartition(" | ")
             line, *words = step.split(" ")
             owner, *reply = entry.split(" ")
