@@ -3,6 +3,7 @@ from __future__ import annotations
 
 import importlib
 import pathlib
+import struct
 import sys
 from typing import Any, Iterator, List
 
@@ -155,6 +156,13 @@ def test_what_isnt_a_source(tmp_path: pathlib.Path) -> None:
         t.bus(Echo, Echo, t.file(tmp_path / "wrong.txt"))
 
 
+def descriptor_read(other: Any, number: int, value: int, data: bytes) -> List[Any]:
+    """The events of a request for a descriptor, with this id, of another event's device (USB 2.0, 9.4.3; Linux's usbmon.rst)."""
+    setup = struct.pack("<BBHHH", 0x80, 6, value, 0, len(data))
+    sent = other._replace(id=number, type=2, ep=0x80, microseconds=0, length=len(data), setup=setup, flags=0x200, data=b"")
+    return [sent, sent._replace(kind="C", status=0, setup=None, data=data)]
+
+
 @pytest.fixture
 def capture(tmp_path: pathlib.Path) -> pathlib.Path:
     """A recording of a device: the packet 10 was written, and 2a was read (Linux's usbmon.rst)."""
@@ -169,8 +177,7 @@ def capture(tmp_path: pathlib.Path) -> pathlib.Path:
     configuration = bytes.fromhex("0902200001010080320904000002ff0000000705810240000007050202400000")
     written = capture_of.Event(1, "S", 3, 0x02, 5, 1, 0, 0, -115, 1, None, 0, b"\x10", 1)
     read = capture_of.Event(2, "S", 3, 0x81, 5, 1, 0, 2, -115, 64, None, 0x200, b"", 3)
-    events = [*capture_of.descriptor_read(written, 0, 0x0100, 0, device), *capture_of.descriptor_read(written, 1, 0x0200, 0, configuration),
-              written,
+    events = [*descriptor_read(written, 8, 0x0100, device), *descriptor_read(written, 9, 0x0200, configuration), written,
               written._replace(kind="C", status=0, data=b"", microseconds=1), read,
               read._replace(kind="C", status=0, length=1, data=b"\x2a", microseconds=3)]
     path = tmp_path / "meter.pcap"
