@@ -48,15 +48,18 @@ class Limit:
         self.thread = threading.get_ident()
         self.over = threading.Event()
         self.lock = threading.Lock()
+        self.calls: List[threading.Thread] = []
         self.previous: Any = None
         if threading.current_thread() is threading.main_thread() and signal.getsignal(signal.SIGALRM) is signal.SIG_DFL:
             self.previous = signal.signal(signal.SIGALRM, self._interrupted)
         threading.Thread(target=self._wait, name="tirnouch-limit", daemon=True).start()
 
     def stop(self) -> None:
-        """It isn't watched any more."""
+        """It isn't watched any more. A call that pulls a device out is waited for, within the patience: else it would meet the next bus."""
         with self.lock:
             self.over.set()
+        for it in list(self.calls):
+            it.join(PATIENCE)
         if self.previous is not None:
             signal.pthread_sigmask(signal.SIG_BLOCK, {signal.SIGALRM})
             signal.sigtimedwait({signal.SIGALRM}, 0)    # an interrupt that comes too late
@@ -73,7 +76,7 @@ class Limit:
         if self.over.wait(self.milliseconds / 1000):
             return
         left: List[str] = []
-        has_lock = in_time(lambda: left.extend(self.bus.left()))
+        has_lock = self._in_time(lambda: left.extend(self.bus.left()))
         what = "the devices were pulled out; " + ("in flight: " + "; ".join(left) if left else "nothing was in flight: the test waited for "
                                                    "something else")
         if not has_lock:
@@ -83,14 +86,30 @@ class Limit:
             if self.over.is_set():
                 return
             self.told = f"the limit of {self.milliseconds} ms is over; {what}"
-        while True:
-            if in_time(self._pull) and self.over.wait(GRACE):
+        while not self.over.is_set():
+            if self._in_time(self._pull) and self.over.wait(GRACE):
                 return
             self._interrupt()
 
     def _pull(self) -> None:
         for it in self.bus.ports:
-            self.bus.library.c.tirnouch_pull(it.number)
+            if not self.over.is_set():
+                self.bus.library.c.tirnouch_pull(it.number)
+
+    def _in_time(self, call: Callable[[], None]) -> bool:
+        """Whether a call of the library returns within the patience; a thread of its own waits for the rest."""
+        done = threading.Event()
+
+        def work() -> None:
+            call()
+            done.set()
+
+        with self.lock:
+            if self.over.is_set():
+                return False
+            self.calls.append(threading.Thread(target=work, name="tirnouch-limit-call", daemon=True))
+            self.calls[-1].start()
+        return done.wait(PATIENCE)
 
     def _interrupt(self) -> None:
         with self.lock:
@@ -100,15 +119,3 @@ class Limit:
                 signal.pthread_kill(self.thread, signal.SIGALRM)
             else:
                 ctypes.pythonapi.PyThreadState_SetAsyncExc(ctypes.c_ulong(self.thread), ctypes.py_object(LimitOver))
-
-
-def in_time(call: Callable[[], None]) -> bool:
-    """Whether a call of the library returns within the patience; a thread of its own waits for the rest."""
-    done = threading.Event()
-
-    def work() -> None:
-        call()
-        done.set()
-
-    threading.Thread(target=work, name="tirnouch-limit-call", daemon=True).start()
-    return done.wait(PATIENCE)

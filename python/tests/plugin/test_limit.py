@@ -1,6 +1,12 @@
 """A test that hangs fails by itself, and the tests behind it run."""
+import threading
 import time
-from typing import Any
+from types import SimpleNamespace
+from typing import Any, List
+
+import pytest
+
+from tirnouch.limits import PATIENCE, Limit, LimitOver
 
 HANGS = {
     "a read that is never answered": ("driver.ask(1, 0)", "in flight: the transfer of 64 bytes at 81 is in flight"),
@@ -50,6 +56,28 @@ def test_a_device_that_doesnt_return(run: Any) -> None:
         """)
     result.assert_outcomes(passed=1, failed=1)
     result.stdout.fnmatch_lines(["E*the limit of 200 ms is over; a method doesn't return: Loops at `in 81 64`"])
+
+
+def test_a_device_is_pulled_out_of_its_own_bus() -> None:
+    """Also where the library's lock isn't free until the test has ended: nothing is pulled out once the limit isn't watched any more."""
+    free, began, ended = threading.Event(), [], []
+
+    def pull(number: int) -> None:
+        began.append(number)
+        assert free.wait(10)
+        ended.append(number)
+
+    left: List[str] = []
+    bus: Any = SimpleNamespace(ports=[SimpleNamespace(number=0), SimpleNamespace(number=1)], left=lambda: left,
+                               library=SimpleNamespace(c=SimpleNamespace(tirnouch_pull=pull)))
+    limit = Limit(bus, 10)
+    with pytest.raises(LimitOver):
+        time.sleep(60)
+    threading.Timer(PATIENCE / 4, free.set).start()
+    limit.stop()
+    assert began and began == ended, "the next bus would lose a device"
+    time.sleep(2 * PATIENCE)
+    assert 1 not in began and began == ended
 
 
 def test_a_test_within_its_limit_passes(run: Any) -> None:
