@@ -4,15 +4,13 @@
     tools/layers.py write    writes the page anew
     tools/layers.py check    says whether it is current; the gate asks it
 
-Of each crate: what it is, its one promise, and what of this repository it stands on; what stands below that goes without saying."""
+Of each crate: what it is, and what of this repository it stands on; what stands below that goes without saying."""
 import pathlib
 import re
 import sys
-import textwrap
 
 ROOT = pathlib.Path(__file__).resolve().parent.parent
 PAGE = ROOT / "docs" / "LAYERS.md"
-WIDTH = 118
 ROLES = [
     ("tirnouch", "What a driver's author uses"),
     ("usb_", "What ships, lowest first"),
@@ -24,6 +22,27 @@ ROLES = [
     ("check_", "Scenes that the gate runs"),
     ("example_", "Programs to copy"),
 ]
+
+
+# How a transfer goes through the crates that ship.
+PICTURE = """\
+    a program in C or Python     a driver in Rattle          a scenario, as text
+              |                          |                          |
+            c/usb                    tirnouch                   usbtrace
+              |                          |                          |
+              |                 usb_workers: threads       trace_main, trace_run
+              |                 usb_library: a lock                 |
+         tirnouch_c             usb_journal: what was done      usb_plans
+              |                          |                          |
+              +--------------------- usb_core ----------------------+
+                                         |
+                     usb_tables: who holds what, what is in flight
+                                         |
+                     usb_xhc: the controller ---- usb_device: what is answered
+                                         |                  |
+                     usb_rings: TRBs in memory      usb_descriptors
+                                         |
+                     usb_trb: sixteen bytes""".split("\n")
 
 
 def crates():
@@ -66,18 +85,11 @@ def all_below(crate, uses, seen=None):
     return seen
 
 
-def page_of(crate, uses):
-    """The page of a crate."""
-    lines = [f"### {crate}", ""]
-    for text in head_of(crate):
-        promise = text.removeprefix("The one promise: ")
-        if promise != text:
-            text = f"**Promise.** {promise[0].upper()}{promise[1:]}"
-        lines += [*textwrap.wrap(text, WIDTH, break_long_words=False, break_on_hyphens=False), ""]
-    on = direct(crate, uses)
-    if on:
-        lines += [*textwrap.wrap("Stands on " + ", ".join(f"`{it}`" for it in on) + ".", WIDTH), ""]
-    return lines
+def row_of(crate, uses):
+    """The row of a crate: the first sentence of its head, and what it stands on."""
+    first = re.split(r"(?<=[.!?]) (?=[A-Z`])", " ".join(head_of(crate)))[0]
+    on = ", ".join(f"`{it}`" for it in direct(crate, uses))
+    return f"| `{crate}` | {first.rstrip('.')} | {on} |"
 
 
 def page():
@@ -85,8 +97,12 @@ def page():
     uses, lines = crates(), [
         "# Layers",
         "",
-        "Made by tools/layers.py from what each crate says of itself; its files and contracts stand in the head of its lib.rt.",
-        "docs/REFINEMENT.md says how the layers of the core hang together, docs/DECISIONS.md why a crate is one.",
+        "Made by tools/layers.py from what each crate says of itself; its promise, its files and its contracts stand in the head of its",
+        "lib.rt. [REFINEMENT.md](REFINEMENT.md) says how the layers of the core hang together, [DECISIONS.md](DECISIONS.md) why a crate is one.",
+        "",
+        "A transfer goes down on the left of each line, and its result comes up:",
+        "",
+        *PICTURE,
         "",
     ]
     placed = {}
@@ -94,9 +110,8 @@ def page():
         role = next(it for it, _ in ROLES if crate.startswith(it))
         placed.setdefault(role, []).append(crate)
     for role, title in ROLES:
-        lines += [f"## {title}", ""]
-        for crate in placed.get(role, []):
-            lines += page_of(crate, uses)
+        lines += [f"## {title}", "", "| crate | what it is | stands on |", "|---|---|---|"]
+        lines += [*(row_of(crate, uses) for crate in placed.get(role, [])), ""]
     return "\n".join(lines).rstrip("\n") + "\n"
 
 
