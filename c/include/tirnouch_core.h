@@ -30,6 +30,33 @@ enum tirnouch_kind {
     TIRNOUCH_SETTLED = 10, TIRNOUCH_CALLED = 11
 };
 
+/* Completion codes (xHCI 1.2, 6.4.5), in `status` of TIRNOUCH_ENDED. */
+enum tirnouch_code {
+    TIRNOUCH_CODE_SUCCESS = 1, TIRNOUCH_CODE_BABBLE = 3, TIRNOUCH_CODE_TRANSACTION_ERROR = 4, TIRNOUCH_CODE_STALL = 6,
+    TIRNOUCH_CODE_SHORT_PACKET = 13
+};
+
+/* What waits, whoever it is of: the bits of `status` of tirnouch_look and tirnouch_pending. */
+enum tirnouch_waiting { TIRNOUCH_WAITS_ORDER = 1, TIRNOUCH_WAITS_EVENT = 2, TIRNOUCH_WAITS_RESULT = 4 };
+
+/* An answer: `kind` of tirnouch_feed. */
+enum tirnouch_answer {
+    TIRNOUCH_ANSWER_PACKET = 0, TIRNOUCH_ANSWER_TAKEN = 1, TIRNOUCH_ANSWER_NOT_READY = 2, TIRNOUCH_ANSWER_STALL = 3,
+    TIRNOUCH_ANSWER_BROKEN = 4
+};
+
+/* Whether a device is asked for a packet: `kind` of tirnouch_offer. */
+enum tirnouch_offered { TIRNOUCH_OFFER_ANSWERED = 0, TIRNOUCH_OFFER_ASKED = 1, TIRNOUCH_OFFER_NONE = 3 };
+
+/* What a host has to hold: `kind` of tirnouch_needs. */
+enum tirnouch_needed { TIRNOUCH_NEEDS_NOTHING = 0, TIRNOUCH_NEEDS_INTERFACE = 1, TIRNOUCH_NEEDS_ENDPOINT = 2 };
+
+/* What the text says of a device: `what` of tirnouch_tell. */
+enum tirnouch_said { TIRNOUCH_SAYS_SPEED = 0, TIRNOUCH_SAYS_DRIVER = 1, TIRNOUCH_SAYS_GATE = 2, TIRNOUCH_SAYS_DEPARTURE = 3 };
+
+/* In `h`: what is told is nobody's. */
+#define TIRNOUCH_NOBODY 255
+
 /* What holds a session. Its fields are the library's. */
 struct tirnouch_slot {
     void *at;

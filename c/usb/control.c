@@ -15,9 +15,9 @@ static int hold(struct libusb_device_handle *handle, const uint8_t *setup)
 {
     struct tirnouch_told told = { 0 };
     tirnouch_needs(setup, &told);
-    if (told.kind == 1)
+    if (told.kind == TIRNOUCH_NEEDS_INTERFACE)
         return told.n < INTERFACES ? claim_in_passing(handle, (int)told.n) : LIBUSB_ERROR_NOT_FOUND;
-    if (told.kind == 2) {
+    if (told.kind == TIRNOUCH_NEEDS_ENDPOINT) {
         const struct pipe *pipe = &handle->device->pipes[place_of(told.ep)];
         return pipe->kind ? claim_in_passing(handle, pipe->interface) : LIBUSB_ERROR_NOT_FOUND;
     }

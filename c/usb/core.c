@@ -163,10 +163,10 @@ bool core_settle_in(struct core *core, uint32_t most)
     }
     for (uint32_t done = 0; done < most; done++) {
         tirnouch_look(&core->slot, 0, 0, &told);
-        if (!(told.status & 3))
+        if (!(told.status & (TIRNOUCH_WAITS_ORDER | TIRNOUCH_WAITS_EVENT)))
             return done;
         trace_to(core);
-        trace_text(told.status & 2 ? "deliver\n" : "command\n");
+        trace_text(told.status & TIRNOUCH_WAITS_EVENT ? "deliver\n" : "command\n");
         trace_out();
         tirnouch_settle(&core->slot, 0, 1, &told);
     }

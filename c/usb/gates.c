@@ -31,7 +31,7 @@ static int add_gate(struct pipe *pipe, struct gate gate)
 int learn_gates(struct device *device)
 {
     struct tirnouch_told told = { 0 };
-    for (size_t i = 0; !tirnouch_tell(&device->core->slot, device->number_there, 2, i, &told); i++) {
+    for (size_t i = 0; !tirnouch_tell(&device->core->slot, device->number_there, TIRNOUCH_SAYS_GATE, i, &told); i++) {
         struct gate gate = { .place = told.amount, .is_of_requests = told.kind, .count = told.n };
         if (gate.is_of_requests)
             gate.meant = meant_by(&told);

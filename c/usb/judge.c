@@ -95,7 +95,7 @@ void judge_end(struct pipe *pipe)
     if (judged->is_past || judged->place < judged->count || pipe->is_asked || pipe->device->is_gone)
         return;
     tirnouch_offer(&pipe->core->slot, pipe->number, pipe->ep, data, MOST_PACKET, &told);
-    if (told.kind != 1)
+    if (told.kind != TIRNOUCH_OFFER_ASKED)
         return;
     judged->is_past = true;
     struct sentence it = { 0 };

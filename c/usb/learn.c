@@ -81,7 +81,7 @@ static void learn_endpoints(struct device *device)
 static void learn_drivers(struct device *device)
 {
     struct tirnouch_told told = { 0 };
-    for (size_t i = 0; !tirnouch_tell(&device->core->slot, device->number_there, 1, i, &told); i++)
+    for (size_t i = 0; !tirnouch_tell(&device->core->slot, device->number_there, TIRNOUCH_SAYS_DRIVER, i, &told); i++)
         if (told.n < INTERFACES)
             device->interfaces[told.n].has_driver = true;
 }
@@ -108,14 +108,14 @@ static void learn_word_lines(struct device *device)
     uint8_t number = device->number_there;
     device->configurations = device->descriptor[17];
     device->descriptor[17] = 1;
-    if (!tirnouch_tell(&device->core->slot, number, 0, 0, &told)) {
+    if (!tirnouch_tell(&device->core->slot, number, TIRNOUCH_SAYS_SPEED, 0, &told)) {
         device->speed = told.kind;
         device->is_hidden = told.status;
         device->begins_anew = told.amount;
         device->lasts = told.n;
         device->is_watched |= device->lasts;
     }
-    if (!tirnouch_tell(&device->core->slot, number, 3, 0, &told)) {
+    if (!tirnouch_tell(&device->core->slot, number, TIRNOUCH_SAYS_DEPARTURE, 0, &told)) {
         device->leaves = device->is_watched = true;
         device->leaves_ep = told.ep;
         device->leaves_behind = told.amount;

@@ -60,23 +60,20 @@ uint64_t moment_later(int answer)
     return now() + (uint64_t)(TIRNOUCH_LATER(0) - (int64_t)answer) * MILLISECOND;
 }
 
-/* The kinds of `tirnouch_feed`. */
-enum { A_PACKET, A_TAKEN, A_STALL = 3, A_BROKEN = 4 };
-
 /* Of which kind an answer is. One that means nothing is told, and breaks the transaction. */
 static uint8_t kind_of(const struct pipe *pipe, int answer)
 {
     if (answer == TIRNOUCH_STALL)
-        return A_STALL;
+        return TIRNOUCH_ANSWER_STALL;
     if (answer == TIRNOUCH_BROKEN)
-        return A_BROKEN;
+        return TIRNOUCH_ANSWER_BROKEN;
     if (!is_in(pipe->ep) && answer >= 0)
-        return A_TAKEN;
+        return TIRNOUCH_ANSWER_TAKEN;
     if (answer >= 0 && answer <= MOST_PACKET)
-        return A_PACKET;
+        return TIRNOUCH_ANSWER_PACKET;
     tell_failure("device %d: its function for endpoint %02x answered %d, which is no answer to a packet: a broken transaction", pipe->device->number,
                  pipe->ep, answer);
-    return A_BROKEN;
+    return TIRNOUCH_ANSWER_BROKEN;
 }
 
 /* The answer goes behind the script, and is to be served. */
@@ -84,7 +81,7 @@ static bool feed_answer(struct pipe *pipe, int answer, const uint8_t *data)
 {
     struct device *device = pipe->device;
     uint8_t kind = kind_of(pipe, answer);
-    int count = kind == A_PACKET ? answer : 0;
+    int count = kind == TIRNOUCH_ANSWER_PACKET ? answer : 0;
     int r = tirnouch_feed(&pipe->core->slot, pipe->number, pipe->ep, kind, data, (size_t)count);
     if (!r) {
         trace_feed(pipe, kind, data, count);
@@ -122,7 +119,7 @@ bool ask_device(struct pipe *pipe)
     uint8_t data[MOST_PACKET];
     renew_where_full(pipe);
     struct tirnouch_told told = offer(pipe, data);
-    if (told.kind != 1)
+    if (told.kind != TIRNOUCH_OFFER_ASKED)
         return core_serves(pipe);
     if (pipe->later > now())
         return false;
@@ -136,7 +133,7 @@ bool ask_device(struct pipe *pipe)
 bool may_be_asked(const struct pipe *pipe)
 {
     uint8_t data[MOST_PACKET];
-    return pipe->is_asked && !pipe->device->is_gone && pipe->later <= now() && offer(pipe, data).kind == 1;
+    return pipe->is_asked && !pipe->device->is_gone && pipe->later <= now() && offer(pipe, data).kind == TIRNOUCH_OFFER_ASKED;
 }
 
 /* Requests, and endpoints where a packet waits for that. */

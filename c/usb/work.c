@@ -22,7 +22,7 @@ int pull_out(struct device *device)
 /* A halted endpoint stalls without an answer of its script. */
 static void count_answer(struct pipe *pipe, const struct tirnouch_told *told)
 {
-    bool stalled = told->kind == TIRNOUCH_ENDED && told->status == 6;
+    bool stalled = told->kind == TIRNOUCH_ENDED && told->status == TIRNOUCH_CODE_STALL;
     if (!stalled || !pipe->is_halted)
         pipe->answers++;
     pipe->naks += told->kind == TIRNOUCH_NAK;
