@@ -55,7 +55,7 @@ class Changes(unittest.TestCase):
         self.assertEqual((it.proved, it.wrong_bodies), ([], ["usb_devicetext"]))
 
     def test_tools_and_python(self) -> None:
-        self.assertEqual(changed.trials(["tools/runs/limit.py", "python/tirnouch/bus.py"]).tests, ["tools/python_test.py", changed.TESTS["tools/runs"]])
+        self.assertEqual(changed.trials(["tools/runs/limit.py", "python/tirnouch/bus.py"]).tests, ["tools/python_test.py all", changed.TESTS["tools/runs"]])
         self.assertEqual(changed.trials(["crates/trace_recorded/src/lib.rt"]).tests, ["make captures"])
 
     def test_nothing(self) -> None:

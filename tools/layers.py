@@ -13,12 +13,12 @@ ROOT = pathlib.Path(__file__).resolve().parent.parent
 PAGE = ROOT / "docs" / "LAYERS.md"
 ROLES = [
     ("tirnouch", "What a driver's author uses"),
-    ("usb_", "What ships, lowest first"),
-    ("trace_", "Parts of `usbtrace`"),
+    ("usb_", "The library, lowest first"),
+    ("trace_", "Scenarios, captures and traces: parts of `usbtrace`, of which the first reads the devices of C's texts too"),
     ("usbtrace", "The program"),
     ("proof_", "No code: lemmas on the definitions, and their laws"),
     ("refine_", "No code: what the core keeps shows the world"),
-    ("reference", "The program that runs the definitions"),
+    ("reference", "The plain program, by which `usbtrace` explains and judges"),
     ("check_", "Scenes that the gate runs"),
     ("example_", "Programs to copy"),
 ]
@@ -30,9 +30,9 @@ PICTURE = """\
               |                          |                          |
             c/usb                    tirnouch                   usbtrace
               |                          |                          |
-              |                 usb_workers: threads       trace_main, trace_run
-              |                 usb_library: a lock                 |
-         tirnouch_c             usb_journal: what was done      usb_plans
+         tirnouch_c             usb_workers: threads     trace_main, trace_run (and
+   usb_devicetext: the text     usb_library: a lock      trace_live, over usb_workers)
+   usb_living: who computes     usb_journal: the book           usb_plans
               |                          |                          |
               +--------------------- usb_core ----------------------+
                                          |
@@ -43,6 +43,10 @@ PICTURE = """\
                      usb_rings: TRBs in memory      usb_descriptors
                                          |
                      usb_trb: sixteen bytes""".split("\n")
+
+
+# What ships, by the crate on top of it.
+PRODUCTS = [("C", "tirnouch_c"), ("Rattle", "tirnouch"), ("usbtrace", "usbtrace")]
 
 
 def crates():
@@ -85,11 +89,16 @@ def all_below(crate, uses, seen=None):
     return seen
 
 
+def products(crate, uses):
+    """What of PRODUCTS a crate is a part of."""
+    return ", ".join(word for word, top in PRODUCTS if crate == top or crate in all_below(top, uses))
+
+
 def row_of(crate, uses):
-    """The row of a crate: the first sentence of its head, and what it stands on."""
+    """The row of a crate: the first sentence of its head, what it stands on, and what it is a part of."""
     first = re.split(r"(?<=[.!?]) (?=[A-Z`])", " ".join(head_of(crate)))[0]
     on = ", ".join(f"`{it}`" for it in direct(crate, uses))
-    return f"| `{crate}` | {first.rstrip('.')} | {on} |"
+    return f"| `{crate}` | {first.rstrip('.')} | {on} | {products(crate, uses)} |"
 
 
 def page():
@@ -100,7 +109,8 @@ def page():
         "Made by tools/layers.py from what each crate says of itself; its promise, its files and its contracts stand in the head of its",
         "lib.rt. [REFINEMENT.md](REFINEMENT.md) says how the layers of the core hang together, [DECISIONS.md](DECISIONS.md) why a crate is one.",
         "",
-        "A transfer goes down on the left of each line, and its result comes up:",
+        "What ships is the library for C (with c/usb), that for Rattle, and `usbtrace`; the last column says which of them has a crate.",
+        "A transfer goes down, and its result comes up:",
         "",
         *PICTURE,
         "",
@@ -110,7 +120,7 @@ def page():
         role = next(it for it, _ in ROLES if crate.startswith(it))
         placed.setdefault(role, []).append(crate)
     for role, title in ROLES:
-        lines += [f"## {title}", "", "| crate | what it is | stands on |", "|---|---|---|"]
+        lines += [f"## {title}", "", "| crate | what it is | stands on | part of |", "|---|---|---|---|"]
         lines += [*(row_of(crate, uses) for crate in placed.get(role, [])), ""]
     return "\n".join(lines).rstrip("\n") + "\n"
 

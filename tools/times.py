@@ -130,7 +130,7 @@ def page() -> str:
         "What proves crates takes at least so many minutes of two or of four processors, computed from the minutes of the crates. Where",
         "other work runs on the machine, a proof takes up to twice its processor time. What was built or proved is kept: a second run of",
         "`make test` takes some minutes, for its tests and programs, and the others but `make c-test` take no time.",
-        *([""] + textwrap.wrap(f"Not measured, and counted as nothing: {', '.join(unmeasured)}.", 138) if unmeasured else []),
+        *([""] + textwrap.wrap(f"Proofs that aren't measured, and count as nothing: {', '.join(unmeasured)}.", 138) if unmeasured else []),
         "",
         "## Proofs, crate by crate",
         "",
