@@ -173,6 +173,34 @@ comes back 0 as 1
          "written: 0, 300000\nread: 0, 300000, last 5b\n",
          f"device 0, endpoint 02: packet 1 differs at offset 0: came [01]{counting(1, 16)}.. (length 64), "
          f"expected [00]{counting(1, 16)}.. (length 64)"),
+    # Device 1 has a function amid the run, and so a core of its own, in which it is device 0: its script, and then the function's answers.
+    Case("moves", f"""device 0 {BULK}
+control 0 c0 01 0000 0000 d:a0
+script 0 02 a a
+script 0 81 d:01 d:02
+device 1 {BULK}
+ids 1 1209 0002
+control 1 c0 01 0000 0000 d:b0
+control 1 c0 03 0000 0000 n
+script 1 02 a a a
+script 1 81 d:11
+""", """written: all, 2
+read: 11
+asked: b0
+written: all, 2
+read: 01
+asked: a0
+it waits
+moves: 0
+written: all, 2
+event: 31
+written: all, 2
+read: 32
+asked: b0
+written: all, 2
+read: 02
+asked: a0
+""", "device 1, endpoint 02: packet 1 differs at offset 0: came [03]02 (length 2), expected [02]02 (length 2)"),
     Case("twice", f"device 0 {BULK}\nscript 0 02 a\n", "written: all, 1\nwritten: all, 1\n",
          "device 0, endpoint 02: packet 1 differs at offset 0: came [00] (length 1), expected [01] (length 1)"),
 ]

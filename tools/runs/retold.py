@@ -46,7 +46,8 @@ class Said(NamedTuple):
 
 class Device:
     """A device of a run by its number in the text that was run: what was said of it, its events in order, and whether it was pulled out.
-    An event's frame is the number of its line; `files` has the file of each."""
+    They are all of one device, whatever number it had in each file. An event's frame is the number of its line; `files` has the file of
+    each."""
 
     def __init__(self, number: int, config: str) -> None:
         self.number, self.config = number, config
@@ -204,7 +205,8 @@ class Run:
                 device = self.devices[number] = Device(number, config)
                 device.said = session.said.get(there, [])
             device.is_unplugged |= there in session.unplugged
-            own = [it._replace(id=it.id + (SESSION * place if it.id < FIRST_REQUEST else 0)) for it in events if it.device == there + 1]
+            own = [it._replace(id=it.id + (SESSION * place if it.id < FIRST_REQUEST else 0), device=number + 1)
+                   for it in events if it.device == there + 1]
             device.events += own
             device.files += [str(session.file)] * len(own)
 
