@@ -150,6 +150,10 @@ polled: LIBUSB_ERROR_TIMEOUT
 polled: 03
 written: LIBUSB_ERROR_TIMEOUT, 0
 """, "device 0, endpoint 02: packet 1 differs at offset 0: came [00]0101 (length 3), expected [01]0101 (length 3)"),
+    # The second answer waits for the write in the second run; a halted endpoint stalls meanwhile.
+    Case("halts", f"device 0 {BULK}\nscript 0 02 a\nscript 0 81 s d:01\n",
+         "read: LIBUSB_ERROR_PIPE\nread: LIBUSB_ERROR_PIPE\nwritten: all, 3\nread: LIBUSB_ERROR_PIPE\nread: 01\n",
+         "device 0, endpoint 02: packet 1 differs at offset 0: came [00]0101 (length 3), expected [01]0101 (length 3)"),
     # A reset begins the scripts anew (DEVICES.md, "The lines").
     Case("resets", f"device 0 {BULK}\nscript 0 02 a\nscript 0 81 d:01 d:02\n",
          "written: all, 1\nread: 01\nread: 02\nreset: 0\nwritten: all, 1\nread: 01\n",

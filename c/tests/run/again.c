@@ -323,6 +323,19 @@ static int stalls(void)
     return end();
 }
 
+/* Reads at a halted endpoint, whose next answer comes behind a write. */
+static int halts(void)
+{
+    begin(0x0001);
+    take(8);
+    take(8);
+    put(1, 3);
+    take(8);
+    libusb_clear_halt(handle, FROM_DEVICE);
+    take(8);
+    return end();
+}
+
 static int resets(void)
 {
     begin(0x0001);
@@ -497,7 +510,7 @@ int main(int count, char **words)
         int (*run)(void);
     } kinds[] = {
         { "requests", requests }, { "silent", silent }, { "vanishes", vanishes }, { "tells", tells }, { "lists", lists },
-        { "waits", waits }, { "threads", threads }, { "stalls", stalls }, { "resets", resets }, { "returns", returns },
+        { "waits", waits }, { "threads", threads }, { "stalls", stalls }, { "halts", halts }, { "resets", resets }, { "returns", returns },
         { "loader", loader }, { "large", large }, { "counts", counts }, { "readies", readies }, { "twice", twice },
         { "otherwise", otherwise }, { "moves", moves },
     };
