@@ -439,6 +439,22 @@ def buses_have_texts_of_their_own(trial: Trial) -> None:
     trial.check(not (trial.folder / "kept.txt.2").exists(), "an old trace counts as that of another bus")
 
 
+def devices_of_a_second_bus_move(trial: Trial) -> None:
+    """Into cores of their own, whose traces stand beside that bus's: of the first bus the device has none."""
+    case = next(it for it in CASES if it.kind == "moves")
+    printed = "written: all, 2\nread: 01\nasked: a0\n" + case.printed
+    for words in ((), ("--seed", "3"), ("--seed", "8")):
+        trial.passes(trial.record(case.devices, "moves_later", *words), printed, f"first, {words}")
+        there = sorted(it.name for it in trial.folder.glob("run.txt*"))
+        trial.check(there == ["run.txt", "run.txt.2", "run.txt.2.d1"], f"the traces are {there}")
+        trial.passes(trial.go("run.txt", "moves_later", "--text", "kept.txt", "--trace", "again.txt"), printed, f"again, {words}")
+        trial.passes(trial.go("again.txt", "moves_later"), printed, f"once more, {words}")
+        texts = [(trial.folder / it).read_text().splitlines() for it in ("kept.txt", "kept.txt.2")]
+        found = [[line for line in text if line.startswith("script 1 81")] for text in texts]
+        trial.check(found == [[], ["script 1 81 d:11 d:31 d:32"]], f"device 1 has {found}")
+    trial.expect(trial.go("run.txt", "moves_later", "--seeds", "1-3"), 0, "3 runs, 0 failed")
+
+
 def a_trace_is_told_from_a_text(trial: Trial) -> None:
     """By its first line, and by a step."""
     case = next(it for it in CASES if it.kind == "resets")
@@ -475,7 +491,7 @@ def comments_change_nothing(trial: Trial) -> None:
 
 TRIALS = [*map(round_trip, CASES), seeds_are_repeated_too, programs_are_in_their_own_traces, requests_without_answers_wait_again,
           programs_that_are_not_ready_wait_again, sessions_are_joined, requests_go_on_in_sessions, standard_requests_wait_too,
-          buses_have_texts_of_their_own, a_trace_is_told_from_a_text, comments_change_nothing]
+          buses_have_texts_of_their_own, devices_of_a_second_bus_move, a_trace_is_told_from_a_text, comments_change_nothing]
 TRIALS_NAMED = {it.__name__.partition(":")[0]: it for it in TRIALS}
 
 

@@ -503,6 +503,15 @@ static int otherwise(void)
     return end();
 }
 
+/* The second device of a second bus moves; of the first bus it doesn't. */
+static int moves_later(void)
+{
+    begin(0x0001);
+    put_and_take(handle, 1);
+    end();
+    return moves();
+}
+
 int main(int count, char **words)
 {
     static const struct {
@@ -512,7 +521,7 @@ int main(int count, char **words)
         { "requests", requests }, { "silent", silent }, { "vanishes", vanishes }, { "tells", tells }, { "lists", lists },
         { "waits", waits }, { "threads", threads }, { "stalls", stalls }, { "halts", halts }, { "resets", resets }, { "returns", returns },
         { "loader", loader }, { "large", large }, { "counts", counts }, { "readies", readies }, { "twice", twice },
-        { "otherwise", otherwise }, { "moves", moves },
+        { "otherwise", otherwise }, { "moves", moves }, { "moves_later", moves_later },
     };
     setvbuf(stdout, NULL, _IOLBF, 0);
     flips = count > 2 && !strcmp(words[2], "changed");
