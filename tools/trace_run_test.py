@@ -196,6 +196,7 @@ read: 01
 asked: a0
 it waits
 moves: 0
+withdrawn: 3, 0
 written: all, 2
 event: 31
 written: all, 2
@@ -389,6 +390,9 @@ def sessions_are_joined(trial: Trial) -> None:
     moved = withdrawn.replace("cancel", "# device 0 goes on in another session: what is in flight is taken out\ncancel")
     (trial.folder / "run.txt.d0").write_text(BEGUN + moved)
     trial.check(trial.text()[4:] == ["script 0 81 d:07"], f"a read that went on is withdrawn: {trial.text()}")
+    late = withdrawn.replace("cancel 0 0\n", "cancel 0 0\n# device 0 goes on in another session: what is in flight is taken out\n")
+    (trial.folder / "run.txt.d0").write_text(BEGUN + late)
+    trial.check("after 0 81 0 81 1" in trial.text(), f"a read that the driver withdrew as the session ended isn't one: {trial.text()}")
 
 
 ASKED = "# request 0 c0 01 0000 0000 8 {}\n"
@@ -452,6 +456,7 @@ def devices_of_a_second_bus_move(trial: Trial) -> None:
         texts = [(trial.folder / it).read_text().splitlines() for it in ("kept.txt", "kept.txt.2")]
         found = [[line for line in text if line.startswith("script 1 81")] for text in texts]
         trial.check(found == [[], ["script 1 81 d:11 d:31 d:32"]], f"device 1 has {found}")
+        trial.check("after 1 81 1 81 1" in texts[1], f"the read that the driver withdrew isn't one: {texts[1]}")
     trial.expect(trial.go("run.txt", "moves_later", "--seeds", "1-3"), 0, "3 runs, 0 failed")
 
 

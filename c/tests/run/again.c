@@ -446,12 +446,29 @@ static void put_and_take(libusb_device_handle *of, unsigned char first)
     ask(1, 8);
 }
 
-/* The second of two devices is given a function amid the run: it goes on in a core of its own, with a read and a request that wait. The first
- * one stays. */
+/* A read at the device that is used, which waits. */
+static struct libusb_transfer *begin_taking(unsigned char *data, int length, int *ended)
+{
+    struct libusb_transfer *transfer = libusb_alloc_transfer(0);
+    libusb_fill_bulk_transfer(transfer, handle, FROM_DEVICE, data, length, on_end, ended, 10 * SECOND);
+    if (libusb_submit_transfer(transfer))
+        exit(12);
+    libusb_handle_events_timeout_completed(NULL, &(struct timeval){ 0, 0 }, ended);
+    return transfer;
+}
+
+static void wait_for(int *ended)
+{
+    while (!*ended)
+        libusb_handle_events_completed(NULL, ended);
+}
+
+/* The second of two devices is given a function amid the run: it goes on in a core of its own, with a read and a request that wait, behind a
+ * read that is being cancelled. The first one stays. */
 static int moves(void)
 {
-    unsigned char setup[16], data[4];
-    int ended = 0, asked = 0;
+    unsigned char setup[16], data[4], none[4];
+    int ended = 0, asked = 0, left = 0;
     begin(0x0001);
     libusb_device_handle *first = handle, *second = libusb_open_device_with_vid_pid(NULL, 0x1209, 0x0002);
     if (!second || libusb_claim_interface(second, 0))
@@ -459,21 +476,21 @@ static int moves(void)
     put_and_take(second, 2);
     put_and_take(first, 3);
     handle = second;
-    struct libusb_transfer *request = begin_asking(3, setup, &asked), *transfer = libusb_alloc_transfer(0);
-    libusb_fill_bulk_transfer(transfer, handle, FROM_DEVICE, data, sizeof data, on_end, &ended, 10 * SECOND);
-    if (libusb_submit_transfer(transfer))
-        return 12;
+    struct libusb_transfer *request = begin_asking(3, setup, &asked);
+    struct libusb_transfer *withdrawn = begin_taking(none, sizeof none, &left), *transfer = begin_taking(data, sizeof data, &ended);
+    libusb_cancel_transfer(withdrawn);
     printf("moves: %d\n", tirnouch_on_packet(1, FROM_DEVICE, gives, NULL));
+    wait_for(&left);
+    printf("withdrawn: %d, %d\n", withdrawn->status, withdrawn->actual_length);
     put(4, 2);
     is_ready = true;
     tirnouch_ready(1);
-    while (!ended)
-        libusb_handle_events_completed(NULL, &ended);
+    wait_for(&ended);
     show("event", transfer->status == LIBUSB_TRANSFER_COMPLETED ? 0 : LIBUSB_ERROR_OTHER, data, transfer->actual_length);
-    libusb_free_transfer(transfer);
     libusb_cancel_transfer(request);
-    while (!asked)
-        libusb_handle_events_completed(NULL, &asked);
+    wait_for(&asked);
+    libusb_free_transfer(withdrawn);
+    libusb_free_transfer(transfer);
     libusb_free_transfer(request);
     put_and_take(second, 5);
     put_and_take(first, 6);
