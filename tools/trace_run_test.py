@@ -150,6 +150,10 @@ polled: LIBUSB_ERROR_TIMEOUT
 polled: 03
 written: LIBUSB_ERROR_TIMEOUT, 0
 """, "device 0, endpoint 02: packet 1 differs at offset 0: came [00]0101 (length 3), expected [01]0101 (length 3)"),
+    # The second answer waits for the write in the second run; a halted endpoint stalls meanwhile.
+    Case("halts", f"device 0 {BULK}\nscript 0 02 a\nscript 0 81 s d:01\n",
+         "read: LIBUSB_ERROR_PIPE\nread: LIBUSB_ERROR_PIPE\nwritten: all, 3\nread: LIBUSB_ERROR_PIPE\nread: 01\n",
+         "device 0, endpoint 02: packet 1 differs at offset 0: came [00]0101 (length 3), expected [01]0101 (length 3)"),
     # A reset begins the scripts anew (DEVICES.md, "The lines").
     Case("resets", f"device 0 {BULK}\nscript 0 02 a\nscript 0 81 d:01 d:02\n",
          "written: all, 1\nread: 01\nread: 02\nreset: 0\nwritten: all, 1\nread: 01\n",
@@ -173,6 +177,35 @@ comes back 0 as 1
          "written: 0, 300000\nread: 0, 300000, last 5b\n",
          f"device 0, endpoint 02: packet 1 differs at offset 0: came [01]{counting(1, 16)}.. (length 64), "
          f"expected [00]{counting(1, 16)}.. (length 64)"),
+    # Device 1 has a function amid the run, and so a core of its own, in which it is device 0: its script, and then the function's answers.
+    Case("moves", f"""device 0 {BULK}
+control 0 c0 01 0000 0000 d:a0
+script 0 02 a a
+script 0 81 d:01 d:02
+device 1 {BULK}
+ids 1 1209 0002
+control 1 c0 01 0000 0000 d:b0
+control 1 c0 03 0000 0000 n
+script 1 02 a a a
+script 1 81 d:11
+""", """written: all, 2
+read: 11
+asked: b0
+written: all, 2
+read: 01
+asked: a0
+it waits
+moves: 0
+withdrawn: 3, 0
+written: all, 2
+event: 31
+written: all, 2
+read: 32
+asked: b0
+written: all, 2
+read: 02
+asked: a0
+""", "device 1, endpoint 02: packet 1 differs at offset 0: came [03]02 (length 2), expected [02]02 (length 2)"),
     Case("twice", f"device 0 {BULK}\nscript 0 02 a\n", "written: all, 1\nwritten: all, 1\n",
          "device 0, endpoint 02: packet 1 differs at offset 0: came [00] (length 1), expected [01] (length 1)"),
 ]
@@ -357,6 +390,9 @@ def sessions_are_joined(trial: Trial) -> None:
     moved = withdrawn.replace("cancel", "# device 0 goes on in another session: what is in flight is taken out\ncancel")
     (trial.folder / "run.txt.d0").write_text(BEGUN + moved)
     trial.check(trial.text()[4:] == ["script 0 81 d:07"], f"a read that went on is withdrawn: {trial.text()}")
+    late = withdrawn.replace("cancel 0 0\n", "cancel 0 0\n# device 0 goes on in another session: what is in flight is taken out\n")
+    (trial.folder / "run.txt.d0").write_text(BEGUN + late)
+    trial.check("after 0 81 0 81 1" in trial.text(), f"a read that the driver withdrew as the session ended isn't one: {trial.text()}")
 
 
 ASKED = "# request 0 c0 01 0000 0000 8 {}\n"
@@ -407,6 +443,23 @@ def buses_have_texts_of_their_own(trial: Trial) -> None:
     trial.check(not (trial.folder / "kept.txt.2").exists(), "an old trace counts as that of another bus")
 
 
+def devices_of_a_second_bus_move(trial: Trial) -> None:
+    """Into cores of their own, whose traces stand beside that bus's: of the first bus the device has none."""
+    case = next(it for it in CASES if it.kind == "moves")
+    printed = "written: all, 2\nread: 01\nasked: a0\n" + case.printed
+    for words in ((), ("--seed", "3"), ("--seed", "8")):
+        trial.passes(trial.record(case.devices, "moves_later", *words), printed, f"first, {words}")
+        there = sorted(it.name for it in trial.folder.glob("run.txt*"))
+        trial.check(there == ["run.txt", "run.txt.2", "run.txt.2.d1"], f"the traces are {there}")
+        trial.passes(trial.go("run.txt", "moves_later", "--text", "kept.txt", "--trace", "again.txt"), printed, f"again, {words}")
+        trial.passes(trial.go("again.txt", "moves_later"), printed, f"once more, {words}")
+        texts = [(trial.folder / it).read_text().splitlines() for it in ("kept.txt", "kept.txt.2")]
+        found = [[line for line in text if line.startswith("script 1 81")] for text in texts]
+        trial.check(found == [[], ["script 1 81 d:11 d:31 d:32"]], f"device 1 has {found}")
+        trial.check("after 1 81 1 81 1" in texts[1], f"the read that the driver withdrew isn't one: {texts[1]}")
+    trial.expect(trial.go("run.txt", "moves_later", "--seeds", "1-3"), 0, "3 runs, 0 failed")
+
+
 def a_trace_is_told_from_a_text(trial: Trial) -> None:
     """By its first line, and by a step."""
     case = next(it for it in CASES if it.kind == "resets")
@@ -443,7 +496,7 @@ def comments_change_nothing(trial: Trial) -> None:
 
 TRIALS = [*map(round_trip, CASES), seeds_are_repeated_too, programs_are_in_their_own_traces, requests_without_answers_wait_again,
           programs_that_are_not_ready_wait_again, sessions_are_joined, requests_go_on_in_sessions, standard_requests_wait_too,
-          buses_have_texts_of_their_own, a_trace_is_told_from_a_text, comments_change_nothing]
+          buses_have_texts_of_their_own, devices_of_a_second_bus_move, a_trace_is_told_from_a_text, comments_change_nothing]
 TRIALS_NAMED = {it.__name__.partition(":")[0]: it for it in TRIALS}
 
 

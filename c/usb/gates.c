@@ -63,9 +63,12 @@ static bool is_reached(const struct device *device, const struct gate *gate)
     return tirnouch_taken(&device->core->slot, device->number_there, gate->other, (size_t)(gate->count - before - 1), none, 0) >= 0;
 }
 
-/* What an endpoint's next answer waits for; NULL where it waits for nothing. A device that is pulled out waits for nothing. */
+/* What an endpoint's next answer waits for; NULL where it waits for nothing. A device that is pulled out waits for nothing, nor does an
+ * endpoint that is halted: it stalls without an answer. */
 const struct gate *gate_before(struct pipe *pipe)
 {
+    if (pipe->is_halted)
+        return NULL;
     for (; pipe->gates_passed < pipe->gate_count && !pipe->device->is_gone; pipe->gates_passed++) {
         const struct gate *gate = &pipe->gates[pipe->gates_passed];
         if (gate->place > pipe->answers)

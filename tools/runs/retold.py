@@ -5,7 +5,7 @@ several sessions of a core, in files of their own, becomes one history."""
 import pathlib
 import re
 import subprocess
-from typing import Dict, Iterator, List, NamedTuple, Optional, Tuple
+from typing import Dict, Iterator, List, NamedTuple, Optional, Set, Tuple
 
 from capture import events_of
 from event import CONTROL, IN_PROGRESS, Event
@@ -22,7 +22,12 @@ REQUEST = re.compile(r"# request (\d+) ([0-9a-f]{2}) ([0-9a-f]{2}) ([0-9a-f]{4})
 UNANSWERED = re.compile(r"# request (\d+) (?:CANCELLED|TIMED_OUT|NO_DEVICE)")
 DEVICE = re.compile(r"device (\d+) ([0-9a-fA-F]+)")
 UNPLUG = re.compile(r"unplug (\d+)")
-LOOKED_AT = ("#", "device ", "unplug ")
+# Steps by which a session takes out what is in flight, and the comment that numbers a transfer.
+OPEN = re.compile(r"open (\d+) (\d+)")
+SUBMIT = re.compile(r"submit (\d+) ")
+NUMBER = re.compile(r"# number (\d+)")
+CANCEL = re.compile(r"cancel (\d+) (\d+)")
+LOOKED_AT = ("#", "device ", "unplug ", "open ", "submit ", "cancel ")
 # Statuses of usbmon: a request that moved, stalled, or broke; a transfer that was withdrawn.
 STATUSES = {None: 0, "STALL": -32, "ERROR": -71}
 WITHDRAWN = -2
@@ -46,7 +51,8 @@ class Said(NamedTuple):
 
 class Device:
     """A device of a run by its number in the text that was run: what was said of it, its events in order, and whether it was pulled out.
-    An event's frame is the number of its line; `files` has the file of each."""
+    They are all of one device, whatever number it had in each file. An event's frame is the number of its line; `files` has the file of
+    each."""
 
     def __init__(self, number: int, config: str) -> None:
         self.number, self.config = number, config
@@ -94,7 +100,14 @@ class Session:
         self.numbers: Dict[int, int] = {} if own is None else {own: 0}
         self.said: Dict[int, List[Said]] = {}
         self.successors: Dict[int, int] = {}
-        self.moves: Dict[int, int] = {}
+        # The devices that go on in another session.
+        self.moves: Set[int] = set()
+        # The device of each handle; the last submission, its handle and its line; and the lines of those by handle and number.
+        self.opened: Dict[str, int] = {}
+        self.submission = ("", 0)
+        self.submissions: Dict[Tuple[str, str], int] = {}
+        # The lines of the submissions that the session took out.
+        self.taken_out: Set[int] = set()
         self.unplugged: List[int] = []
         self.elsewhere: List[int] = []
         self.requests: List[Event] = []
@@ -128,9 +141,23 @@ class Session:
         elif found := SUCCESSOR.fullmatch(text):
             self.successors[int(found[1])] = int(found[2])
         elif found := MOVES.fullmatch(text):
-            self.moves[int(found[1])] = line
+            self.moves.add(int(found[1]))
         elif found := UNPLUG.fullmatch(text):
             self.unplugged.append(int(found[1]))
+        else:
+            self.read_step(line, text)
+
+    def read_step(self, line: int, text: str) -> None:
+        """What is cancelled at a device that goes on in another session is what the session takes out; the driver cancelled before that."""
+        if found := SUBMIT.match(text):
+            self.submission = (found[1], line)
+        elif found := NUMBER.fullmatch(text):
+            self.submissions[self.submission[0], found[1]] = self.submission[1]
+        elif found := OPEN.fullmatch(text):
+            self.opened[found[1]] = int(found[2])
+        elif found := CANCEL.fullmatch(text):
+            if self.opened.get(found[1]) in self.moves:
+                self.taken_out.add(self.submissions.get((found[1], found[2]), 0))
 
     def read_request(self, line: int, found: "re.Match[str]") -> None:
         """A request is told where it waits and where it is answered, or there alone; a device has one at a time. One without an answer stays
@@ -161,9 +188,9 @@ class Session:
     def without_moved(self, events: List[Event]) -> List[Event]:
         """Without the transfers that a session took out before anything moved: the driver knows nothing of that, and they go on in the
         next one."""
-        moved = {(it.device, it.id) for it in events if it.kind == "C" and it.status == WITHDRAWN and not it.length
-                 and it.frame > self.moves.get(it.device - 1, it.frame)}
-        return [it for it in events if (it.device, it.id) not in moved]
+        taken_out = {(it.device, it.id) for it in events if it.kind == "S" and it.frame in self.taken_out}
+        unmoved = taken_out & {(it.device, it.id) for it in events if it.kind == "C" and it.status == WITHDRAWN and not it.length}
+        return [it for it in events if (it.device, it.id) not in unmoved]
 
 
 def own_sessions(shared: Session) -> Iterator[Session]:
@@ -204,7 +231,8 @@ class Run:
                 device = self.devices[number] = Device(number, config)
                 device.said = session.said.get(there, [])
             device.is_unplugged |= there in session.unplugged
-            own = [it._replace(id=it.id + (SESSION * place if it.id < FIRST_REQUEST else 0)) for it in events if it.device == there + 1]
+            own = [it._replace(id=it.id + (SESSION * place if it.id < FIRST_REQUEST else 0), device=number + 1)
+                   for it in events if it.device == there + 1]
             device.events += own
             device.files += [str(session.file)] * len(own)
 

@@ -1,8 +1,10 @@
 /* What tools/trace_run_test.py runs: small drivers, each of another kind, that print what they read. The first word says which; a second
  * word, "changed", flips a bit of the first byte that is written. */
 #include <libusb.h>
+#include <tirnouch.h>
 
 #include <pthread.h>
+#include <stdbool.h>
 #include <stdio.h>
 #include <stdlib.h>
 #include <string.h>
@@ -321,6 +323,19 @@ static int stalls(void)
     return end();
 }
 
+/* Reads at a halted endpoint, whose next answer comes behind a write. */
+static int halts(void)
+{
+    begin(0x0001);
+    take(8);
+    take(8);
+    put(1, 3);
+    take(8);
+    libusb_clear_halt(handle, FROM_DEVICE);
+    take(8);
+    return end();
+}
+
 static int resets(void)
 {
     begin(0x0001);
@@ -408,6 +423,81 @@ static int readies(void)
     return end();
 }
 
+static bool is_ready;
+
+/* Behind a write: bytes from 31 on. */
+static int gives(void *unused, uint8_t endpoint, uint8_t *data, int length)
+{
+    static uint8_t next = 0x31;
+    (void)unused;
+    (void)endpoint;
+    if (!is_ready || !length)
+        return TIRNOUCH_NOT_READY;
+    *data = next++;
+    return 1;
+}
+
+/* What both devices of `moves` do. */
+static void put_and_take(libusb_device_handle *of, unsigned char first)
+{
+    handle = of;
+    put(first, 2);
+    take(4);
+    ask(1, 8);
+}
+
+/* A read at the device that is used, which waits. */
+static struct libusb_transfer *begin_taking(unsigned char *data, int length, int *ended)
+{
+    struct libusb_transfer *transfer = libusb_alloc_transfer(0);
+    libusb_fill_bulk_transfer(transfer, handle, FROM_DEVICE, data, length, on_end, ended, 10 * SECOND);
+    if (libusb_submit_transfer(transfer))
+        exit(12);
+    libusb_handle_events_timeout_completed(NULL, &(struct timeval){ 0, 0 }, ended);
+    return transfer;
+}
+
+static void wait_for(int *ended)
+{
+    while (!*ended)
+        libusb_handle_events_completed(NULL, ended);
+}
+
+/* The second of two devices is given a function amid the run: it goes on in a core of its own, with a read and a request that wait, behind a
+ * read that is being cancelled. The first one stays. */
+static int moves(void)
+{
+    unsigned char setup[16], data[4], none[4];
+    int ended = 0, asked = 0, left = 0;
+    begin(0x0001);
+    libusb_device_handle *first = handle, *second = libusb_open_device_with_vid_pid(NULL, 0x1209, 0x0002);
+    if (!second || libusb_claim_interface(second, 0))
+        return 14;
+    put_and_take(second, 2);
+    put_and_take(first, 3);
+    handle = second;
+    struct libusb_transfer *request = begin_asking(3, setup, &asked);
+    struct libusb_transfer *withdrawn = begin_taking(none, sizeof none, &left), *transfer = begin_taking(data, sizeof data, &ended);
+    libusb_cancel_transfer(withdrawn);
+    printf("moves: %d\n", tirnouch_on_packet(1, FROM_DEVICE, gives, NULL));
+    wait_for(&left);
+    printf("withdrawn: %d, %d\n", withdrawn->status, withdrawn->actual_length);
+    put(4, 2);
+    is_ready = true;
+    tirnouch_ready(1);
+    wait_for(&ended);
+    show("event", transfer->status == LIBUSB_TRANSFER_COMPLETED ? 0 : LIBUSB_ERROR_OTHER, data, transfer->actual_length);
+    libusb_cancel_transfer(request);
+    wait_for(&asked);
+    libusb_free_transfer(withdrawn);
+    libusb_free_transfer(transfer);
+    libusb_free_transfer(request);
+    put_and_take(second, 5);
+    put_and_take(first, 6);
+    libusb_close(second);
+    return end();
+}
+
 /* Two buses, which do the same; or the second another thing. */
 static int twice(void)
 {
@@ -430,6 +520,15 @@ static int otherwise(void)
     return end();
 }
 
+/* The second device of a second bus moves; of the first bus it doesn't. */
+static int moves_later(void)
+{
+    begin(0x0001);
+    put_and_take(handle, 1);
+    end();
+    return moves();
+}
+
 int main(int count, char **words)
 {
     static const struct {
@@ -437,9 +536,9 @@ int main(int count, char **words)
         int (*run)(void);
     } kinds[] = {
         { "requests", requests }, { "silent", silent }, { "vanishes", vanishes }, { "tells", tells }, { "lists", lists },
-        { "waits", waits }, { "threads", threads }, { "stalls", stalls }, { "resets", resets }, { "returns", returns },
+        { "waits", waits }, { "threads", threads }, { "stalls", stalls }, { "halts", halts }, { "resets", resets }, { "returns", returns },
         { "loader", loader }, { "large", large }, { "counts", counts }, { "readies", readies }, { "twice", twice },
-        { "otherwise", otherwise },
+        { "otherwise", otherwise }, { "moves", moves }, { "moves_later", moves_later },
     };
     setvbuf(stdout, NULL, _IOLBF, 0);
     flips = count > 2 && !strcmp(words[2], "changed");

@@ -150,6 +150,30 @@ static void behind_requests(void)
     end();
 }
 
+/* A halted endpoint stalls each read, whatever its next answer waits for, until the halt is cleared; also one that is in flight then. */
+static void behind_a_stall(void)
+{
+    struct libusb_transfer *reads[3];
+    begin("an answer behind a stall", "script 0 02 a\nscript 0 81 s d:01\nafter 0 81 1 02 1\n");
+    for (int i = 0; i < 3; i++) {
+        reads[i] = submit(i, 0x81, 8);
+        if (i)
+            work();
+    }
+    say(calls == 3 ? "all of them stalled" : "one waits");
+    answer("clear", libusb_clear_halt(handle, 0x81));
+    for (int i = 0; i < 3; i++)
+        discard(reads[i]);
+    reads[0] = submit(3, 0x81, 8);
+    work();
+    say(calls == 3 ? "the next one waits" : "it is early");
+    reads[1] = submit(4, 0x02, 1);
+    work();
+    discard(reads[0]);
+    discard(reads[1]);
+    end();
+}
+
 static void many_and_few(void)
 {
     long long few = exchange(FEW), many = exchange(MANY);
@@ -162,6 +186,7 @@ int main(void)
     behind_those_that_ended();
     those_that_got_one_do_not_count();
     behind_requests();
+    behind_a_stall();
     many_and_few();
     return 0;
 }
