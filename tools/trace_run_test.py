@@ -3,7 +3,7 @@
 devices, and once more, without editing anything, against the trace of that run: it prints the same, its status is 0, and nothing is told.
 A driver that writes another byte than it did ends with status 3, and that is told.
 
-The drivers are those of c/tests/run/again.c, over bin/libusb-1.0.so.0; bin/usbtrace reads the traces. What they print follows from their
+The drivers are those of c/tests/run/again, over bin/libusb-1.0.so.0; bin/usbtrace reads the traces. What they print follows from their
 devices' texts by docs/DEVICES.md, and what is told by its "What the driver writes"."""
 import os
 import pathlib
@@ -16,7 +16,7 @@ from typing import Callable, Dict, List, NamedTuple, Optional, Tuple
 
 ROOT = pathlib.Path(__file__).resolve().parent.parent
 RUN, REPLAY = ROOT / "tools" / "tirnouch-run", ROOT / "tools" / "replay.py"
-USBTRACE, SOURCE = ROOT / "bin" / "usbtrace", ROOT / "c" / "tests" / "run" / "again.c"
+USBTRACE, SOURCES = ROOT / "bin" / "usbtrace", sorted((ROOT / "c" / "tests" / "run" / "again").glob("*.c"))
 FLAGS = ["-std=c11", "-O1", "-D_GNU_SOURCE", "-Wall", "-Wextra", "-pedantic", "-I", str(ROOT / "c" / "include")]
 SECONDS = 120
 # Bulk IN 81 and OUT 02 with packets of 64 bytes; the same at full speed with a second interface; and interrupt IN 81.
@@ -36,7 +36,7 @@ def counting(first: int, length: int) -> str:
 
 
 class Case(NamedTuple):
-    """A driver of again.c: its devices, what it prints, what is told where its first written byte has another bit, and options of its runs."""
+    """A driver of c/tests/run/again: its devices, what it prints, what is told where its first written byte has another bit, and options of its runs."""
 
     kind: str
     devices: str
@@ -502,7 +502,7 @@ TRIALS_NAMED = {it.__name__.partition(":")[0]: it for it in TRIALS}
 
 def build(folder: pathlib.Path) -> pathlib.Path:
     program = folder / "again"
-    subprocess.run([os.environ.get("CC", "cc"), *FLAGS, SOURCE, "-L", ROOT / "bin", "-lusb-1.0", "-pthread", "-o", program], check=True)
+    subprocess.run([os.environ.get("CC", "cc"), *FLAGS, *SOURCES, "-L", ROOT / "bin", "-lusb-1.0", "-pthread", "-o", program], check=True)
     return program
 
 

@@ -23,7 +23,7 @@ class Thing(Device):
     """It sends back what it took, but for some words."""
 
     product = PRODUCT
-    strings = ("Works", "Thing", "T1")
+    strings = ("Works", "Thing", "THING-1")
     replies = bulk_in(0x81)
 
     def __init__(self) -> None:
