@@ -5,3 +5,7 @@ pub mod Outcomes
 pub mod Packets
 pub mod Statuses
 pub mod Instances
+pub mod Holders
+pub mod Whose
+pub mod InCallbacks
+pub mod Isolation

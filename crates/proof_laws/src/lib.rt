@@ -1,10 +1,43 @@
-//! What the definitions mean: laws on packets, outcomes of shares, statuses, steps that change nothing, and whose time is over; laws that
-//! every run obeys; and worked rows, with the lines that a reader of the rules expects.
+//! What the definitions mean: isolation of handles; laws on packets, outcomes of shares, statuses, steps that change nothing, and whose
+//! time is over; laws that every run obeys; and worked rows, with the lines that a reader of the rules expects.
 //!
 //! The one promise: the definitions compute these lines, and meet the rules of the standards, which are said here once more as
 //! relations.
 //!
+//! # Files
+//!
+//! - `isolation.rt`, specs/Isolation: what a handle sees is what it sees alone; specs/Holders and Whose: who holds what, and whose a step is,
+//!   read off the world; specs/InCallbacks: when a transfer is in its callback
+//! - `runs.rt`: the laws of every run, stated in `usb_model` (specs/Laws); specs/Instances: computed at worked rows
+//! - `laws.rt`, specs/Packets, Outcomes, Statuses, Nothing, Dues: what single definitions mean
+//! - `rows.rt`, specs/Rows: worked rows
+//!
 //! # Contracts
+//!
+//! The laws of isolation; `held_elsewhere` and `whose` hold at every world, also where no run leads to it:
+//!
+//! - `isolation::purge`: what a handle sees of a run is what it sees alone over its own steps; and that is what the system does where no
+//!   other handle makes a step
+//! - `isolation::states`: where a run ends, the world is to the handle what its machine is alone
+//! - `isolation::callbacks`: each transfer is called back at most once, after its number was given; at each endpoint those that were
+//!   neither cancelled nor timed out in order
+//! - `isolation::plans`: what a handle's part of a plan stands for, under the rules of its own submissions, is the
+//!   handle's part of what the plan stands for. A rule that is Free counts as one that stops
+//! - `isolation::plan_steps`: what a plan stands for by `expand`, it may stand for by `Expands`; where no rule is Free, it
+//!   may stand for nothing else
+//! - `isolation::held_elsewhere`: a Claim is refused 5, "another handle holds an interface", just where its caller has
+//!   opened a device that isn't gone, the device has the interface, and another handle holds it; a Reset just where
+//!   its caller has opened a device that isn't gone, each endpoint whose interface the caller holds is quiet, and
+//!   another handle holds an interface of the device; any other step never. Then the world stays as it was
+//! - `isolation::whose`: the owner of an entry is the caller; for Serve, who holds the endpoint's interface; for Command,
+//!   Deliver and Take, the name of the first piece. There is none just for an Unplug, a Serve of an endpoint that has
+//!   no interface or a free one, and a Command, Deliver or Take of an empty list. Such a step, but for an Unplug, is
+//!   idle and changes nothing
+//! - `isolation::in_callbacks`: in every world that a run leads to: a Take brings the transfer of its result into its
+//!   callback, with the status and the round that the callback is told; a verdict that isn't refused takes it out; no
+//!   other step touches it. A number is given to a submission alone, and is then in no callback
+//!
+//! Worked rows, what single definitions mean, and the laws of every run:
 //!
 //! - `rows::transfers`, `halting`, `cancelling`, `handles`, `callbacks`, `unplugging`, `refusals`, `requests`,
 //!   `closing`, `places`, `devices`, `answers`, `feeding`, `statuses`: the definitions print the lines of 78 worked rows, a
@@ -55,6 +88,7 @@
 //!   empty packet its script isn't cut
 #![tactic(auto)]
 
+pub mod isolation;
 pub mod laws;
 pub mod rows;
 pub mod runs;

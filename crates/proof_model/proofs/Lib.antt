@@ -10,3 +10,4 @@ pub mod Calls
 pub mod Bound
 pub mod Bounds
 pub mod Cut
+pub mod Callbacks

@@ -2,3 +2,4 @@
 pub mod Pieces
 pub mod Times
 pub mod Parts
+pub mod Rises

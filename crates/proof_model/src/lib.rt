@@ -14,9 +14,10 @@
 //! - Cells: a table of 4 devices times 256 cells, read and written
 //! - Work: what each kind of work does to a line, replies and moves; errands and what waits for them
 //!
-//! Of every run: the cut, the places, the bound:
+//! Of every run: the cut, the places, the bound, the callbacks:
 //!
 //! - Machines: what a step of a machine may do, once its refusals are passed
 //! - Coherence: each kind of work keeps an endpoint and what waits for it fitting each other
 //! - Places, Bound, Cut: the three laws, each led over every step, and then over every run
+//! - Callbacks: each transfer is called back at most once, and in order
 #![tactic(auto)]

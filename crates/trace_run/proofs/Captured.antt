@@ -21,7 +21,8 @@ use Rattle.usb_model.specs.World.Journal.{Place, journal_from, run_from}
 use Rattle.usb_model.specs.World.Plans.{Stage, first_stage, is_submission, needs_stop, return_steps, returning, stage_after, steps_of, verdict_by}
 use Rattle.usb_plans.specs.Drives.{TakesNext}
 use Rattle.usb_plans.specs.PlanRuns.{Performs, PlanState, ShowsStage, StandsFor, is_verdict}
-use Rattle.usb_plans.proofs.Plans.{AreFixed, IsFixedStage, fixed_after, fixed_once, stands_only}
+use Rattle.proof_laws.proofs.Plans.{AreFixed, IsFixedStage, fixed_after, fixed_once}
+use Rattle.usb_plans.proofs.OnlySteps.{stands_only}
 use Rattle.usb_plans.proofs.Reached.{piece_rules}
 use Rattle.usb_plans.proofs.TakenCallbacks.{Takes, has_one, takes}
 use Rattle.trace_capture.specs.declared.event.Event.{Event}

@@ -18,7 +18,8 @@ use Rattle.usb_model.specs.World.Journal.{run_from}
 use Rattle.usb_model.specs.World.Plans.{Stage, first_stage, is_submission, stage_after, steps_of}
 use Rattle.usb_plans.specs.Drives.{TakesNext}
 use Rattle.usb_plans.specs.PlanRuns.{Performs, PlanState, ShowsStage, StandsFor, is_verdict}
-use Rattle.usb_plans.proofs.Plans.{AreFixed, IsFixedStage, fixed_after, fixed_once, stands_only}
+use Rattle.proof_laws.proofs.Plans.{AreFixed, IsFixedStage, fixed_after, fixed_once}
+use Rattle.usb_plans.proofs.OnlySteps.{stands_only}
 use Rattle.usb_plans.proofs.Reached as reached
 use Rattle.usb_plans.proofs.Reached.{piece_rules}
 use Rattle.usb_plans.proofs.TakenCallbacks.{Takes, has_one, takes}

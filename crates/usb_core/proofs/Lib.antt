@@ -20,7 +20,5 @@ mod Shown
 mod Unfinished
 mod Payloads
 mod Unsized
-mod Rises
-pub mod CallsBack
 mod PlainSteps
 pub mod FedCores

@@ -15,7 +15,7 @@ use Rattle.refine_core.specs.Steps.{TurnsWorld}
 use Rattle.refine_world.specs.Lively.{IsFine}
 use Rattle.usb_core.specs.Runs.{IsLawfulRun, ObeysLaws}
 use Rattle.usb_core.specs.Steps.{Advances}
-use Rattle.usb_core.proofs.CallsBack.{calls_back_in_order, calls_back_once}
+use Rattle.proof_model.proofs.Callbacks.{calls_in_order, calls_once}
 use Rattle.usb_core.proofs.Unsized.{cut_anywhere}
 
 -- every run obeys the laws
@@ -28,8 +28,8 @@ lawful_run setup steps fine = record {
   cut = cut_anywhere setup steps fine;
   places = keeps_places setup steps;
   ends = asked_ends setup steps;
-  once = calls_back_once setup steps;
-  order = calls_back_in_order setup steps;
+  once = calls_once setup steps;
+  order = calls_in_order setup steps;
 }
 
 -- no entries are those of no steps

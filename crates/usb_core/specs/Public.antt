@@ -7,26 +7,19 @@ pub use Rattle.refine_core.specs.State.{State, ShowsWorld, result_of}
 -- a call is a turn of the world; one that ends a callback, or is refused
 pub use Rattle.refine_core.specs.Steps.{TurnsInRow, TurnsWorld}
 pub use Rattle.refine_core.specs.Calls.{Stays, called_entry}
-pub use Rattle.usb_core.specs.declared.submission.SubmitError.{SubmitError}
 -- the steps that take memory
 pub use Rattle.usb_core.specs.Calls.{takes_memory}
 -- what callers keep with their transfers: it stays, one more joins, one goes out
 pub use Rattle.refine_core.specs.Payloads.{Kept, Carries, StillCarries, CarriesMore}
 pub use Rattle.usb_core.specs.Results.{CarriesOut}
-pub use Rattle.usb_core.specs.declared.results.Taken.{Taken}
 -- what is to be done next
-pub use Rattle.usb_core.specs.declared.pending.Pending.{Pending}
 pub use Rattle.usb_core.specs.Pending.{IsPending, does_something, serves}
 -- packets in a row, told by a count
-pub use Rattle.usb_core.specs.declared.step_bursts.Burst.{Burst}
-pub use Rattle.usb_core.specs.declared.step_bursts.Whole.{Whole}
 pub use Rattle.usb_core.specs.StepBursts.{Differs, burst_entries, whole_entries}
 -- a result goes out to its callback, which ends
 pub use Rattle.usb_core.specs.Bursts.{TakesAndStops}
 -- what handles haven't finished, part by part
-pub use Rattle.usb_core.specs.declared.inventory.WaitingResult.{WaitingResult}
 pub use Rattle.usb_core.specs.Inventory.{waiting_result, number_in, halted}
-pub use Rattle.usb_core.specs.declared.events.Delivered.{Delivered}
 -- a device is fed: the world of the longer scripts is shown where it stands; the packet that is next, or that there is none
 pub use Rattle.refine_core.specs.Feeds.{FeedsWorld, may_be_fed_at}
 pub use Rattle.refine_core.specs.Offers.{HasNone, IsNext}

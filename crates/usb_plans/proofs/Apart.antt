@@ -14,8 +14,8 @@ use Rattle.usb_core.specs.Public.{ShowsWorld, State, TurnsWorld}
 use Rattle.usb_plans.specs.declared.comparison.Comparison.{Comparison}
 use Rattle.usb_plans.specs.declared.comparison.Part.{Part}
 use Rattle.usb_plans.specs.Alone.{AreCalledInOrder, AreCalledOnce, IsNext, IsPart, MakesOwn, RunsPicked, Shares, ShowsSome, picked, place_of, with_own}
-use Rattle.usb_plans.proofs.Calls.{calls_once}
-use Rattle.usb_plans.proofs.Order.{calls_in_order}
+use Rattle.proof_model.proofs.Callbacks.{calls_once}
+use Rattle.proof_model.proofs.Callbacks.{calls_in_order}
 
 -- a run of its own steps gives what the handle's machine says alone
 runs_as_alone : (setup : Setup) (steps : List Step) (h : ℕ) → world_run setup (own setup steps h) ≡ alone setup (own setup steps h) h

@@ -20,10 +20,11 @@ use Rattle.usb_plans.specs.Drives.{Advances, TakesNext}
 use Rattle.usb_plans.specs.PlanRuns.{Performs, PlanState, ShowsStage, StandsFor, entries_of, is_verdict}
 use Rattle.usb_plans.specs.declared.plan_run.Performed.{Performed}
 use Rattle.usb_plans.specs.declared.twins.TwinPiece.{TwinPiece}
-use Rattle.usb_plans.proofs.Expansion.{IsOthersPiece, IsOwnPiece, IsSame, others_piece, own_piece, same_after, same_past}
-use Rattle.usb_plans.proofs.Plans.{AreFixed, IsFixedStage, fixed_after, fixed_once, stands_only}
+use Rattle.proof_laws.proofs.Expansion.{IsOthersPiece, IsOwnPiece, IsSame, others_piece, own_piece, same_after, same_past}
+use Rattle.proof_laws.proofs.Plans.{AreFixed, IsFixedStage, fixed_after, fixed_once}
+use Rattle.usb_plans.proofs.OnlySteps.{stands_only}
 use Rattle.usb_plans.proofs.Reached.{piece_rules, piece_world}
-use Rattle.usb_plans.proofs.Runs.{entries-append, entries_all, entries_none, told_again}
+use Rattle.proof_laws.proofs.OwnEntries.{entries-append, entries_all, entries_none, told_again}
 use Rattle.usb_plans.proofs.TakenCallbacks.{Takes, has_one, takes}
 
 -- the same stage but for the rules to come

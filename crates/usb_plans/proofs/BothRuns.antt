@@ -21,8 +21,8 @@ use Rattle.usb_plans.specs.PlanRuns.{Performs, ShowsStage, entries_of, is_verdic
 use Rattle.usb_plans.proofs.Apart.{entries_in_order, entries_once}
 use Rattle.usb_plans.proofs.ApartPlans as plans
 use Rattle.usb_plans.proofs.ApartPlans.{Beside}
-use Rattle.usb_plans.proofs.Expansion.{expands_alone}
-use Rattle.usb_plans.proofs.Plans.{AreFixed}
+use Rattle.proof_laws.proofs.Expansion.{expands_alone}
+use Rattle.proof_laws.proofs.Plans.{AreFixed}
 
 module _ {P : Type 0} where
   -- where a callback is left, a submission has one

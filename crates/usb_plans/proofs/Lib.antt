@@ -1,20 +1,7 @@
-mod Calls
-mod Given
-mod Order
-mod Runs
-mod UnblockedSteps
-mod Verdicts
-mod Expansion
-pub mod Plans
+pub mod OnlySteps
 pub mod TakenCallbacks
-mod Endpoints
-mod Held
-mod Owners
-mod Returns
-mod Takes
 mod NoneRuns
 mod Stages
-mod Homes
 mod ToldVerdicts
 pub mod Reached
 mod Apart

@@ -26,12 +26,13 @@ use Rattle.usb_plans.specs.Drives.{TakesNext}
 use Rattle.usb_plans.specs.PlanRuns.{IsUnder, PlanState, Performs, ShowsStage, StandsFor, entries_of, is_verdict}
 use Rattle.usb_plans.proofs.Apart.{entries_in_order, entries_once, picked_first, picked_next, picked_none, picked_unmarked, with_first}
 use Rattle.usb_plans.proofs.ApartPlans.{own_by_first}
-use Rattle.usb_plans.proofs.Expansion.{expands_alone, others_piece, rules_left}
-use Rattle.usb_plans.proofs.Plans.{AreFixed, IsFixedStage, fixed_after, fixed_first, fixed_left, fixed_once, stands_only}
+use Rattle.proof_laws.proofs.Expansion.{expands_alone, others_piece, rules_left}
+use Rattle.proof_laws.proofs.Plans.{AreFixed, IsFixedStage, fixed_after, fixed_first, fixed_left, fixed_once}
+use Rattle.usb_plans.proofs.OnlySteps.{stands_only}
 use Rattle.usb_plans.proofs.Reached.{piece_rules, piece_world}
-use Rattle.usb_plans.proofs.Runs.{AllOwn, NoneOwn, entries-append, entries_all, entries_none}
+use Rattle.proof_laws.proofs.OwnEntries.{AllOwn, NoneOwn, entries-append, entries_all, entries_none}
 use Rattle.usb_plans.proofs.TakenCallbacks.{Takes, has_one, takes}
-use Rattle.usb_plans.proofs.Verdicts.{answer_own}
+use Rattle.proof_laws.proofs.Verdicts.{answer_own}
 
 -- a return that names the handle stands for steps of its own
 return_own : (setup : Setup) (h : ℕ) (s : Stage) (n : ℕ) → AllOwn setup h s.world (steps_of setup s (Return h n))

@@ -26,10 +26,10 @@ use Rattle.proof_model.proofs.Places.Runs.{keeps_places}
 use Rattle.usb_plans.specs.declared.plan_run.Performed.{Performed}
 use Rattle.usb_plans.specs.Drives.{Advances, IsDriven, IsDrivenTo, ObeysAll, TakesNext}
 use Rattle.usb_plans.specs.PlanRuns.{PlanState, entries_of, of_option, ShowsStage, StandsFor, is_verdict}
-use Rattle.usb_plans.proofs.Calls.{calls_once}
-use Rattle.usb_plans.proofs.Given.{calls_after_number}
-use Rattle.usb_plans.proofs.Order.{calls_in_order}
-use Rattle.usb_plans.proofs.Plans.{AreFixed, expands_only, may_expand, may_expand_from}
+use Rattle.proof_model.proofs.Callbacks.{calls_once}
+use Rattle.proof_laws.proofs.Given.{calls_after_number}
+use Rattle.proof_model.proofs.Callbacks.{calls_in_order}
+use Rattle.proof_laws.proofs.Plans.{AreFixed, expands_only, may_expand, may_expand_from}
 use Rattle.usb_plans.proofs.TakenCallbacks.{Takes, has_one, takes}
 
 -- what holds of every run

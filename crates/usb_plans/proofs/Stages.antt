@@ -24,9 +24,9 @@ use Rattle.usb_tables.specs.declared.transfer.Transfer.{Transfer as InFlight}
 use Rattle.usb_tables.specs.TransfersInFlight.{EndedOf}
 use Rattle.usb_core.specs.Steps.{GoesOut, first_payload, handed_out, kept_after, kept_by}
 use Rattle.usb_plans.specs.PlanRuns.{IsRunning, IsRunningBut, IsUnder, MakesAnswer, MakesStep, PlanState, RunBehindStep, RunsToo, ShowsBut, ShowsStage, nowhere, running_at, still_called}
-use Rattle.usb_plans.specs.Returns.{AnswerEnds, CallsBack, IsReached, IsTold, KeepsCallbacks, SameCallbacks, TakeCalls, callback_at, ends_callback, is_answer, is_of_callback, is_there}
-use Rattle.usb_plans.proofs.Returns.{keeps_callbacks}
-use Rattle.usb_plans.proofs.Takes.{is_take, no_call}
+use Rattle.proof_laws.specs.InCallbacks.{AnswerEnds, CallsBack, IsReached, IsTold, KeepsCallbacks, SameCallbacks, TakeCalls, callback_at, ends_callback, is_answer, is_of_callback, is_there}
+use Rattle.proof_laws.proofs.InCallbacks.{keeps_callbacks}
+use Rattle.proof_laws.proofs.Takes.{is_take, no_call}
 
 -- a world that is shown is one that a run leads to
 pub reached : {P : Type 0} (setup : Setup) (core : State P) (w : World) → ShowsWorld setup core w → IsReached setup w

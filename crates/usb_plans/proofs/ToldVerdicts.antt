@@ -31,11 +31,11 @@ use Rattle.usb_core.specs.Callbacks.{Fits}
 use Rattle.usb_core.specs.declared.results.Taken.{Taken}
 use Rattle.usb_plans.specs.declared.plan_run.Performed.{Performed}
 use Rattle.usb_plans.specs.PlanRuns.{CallsThere, GivesVerdict, IsUnder, MakesAnswer, MakesStep, Performs, PlanState, Returns, ReturnsBy, RunBehindReturn, ShowsBut, ShowsStage, entries_of, of_option, running_at, stage_behind, still_called}
-use Rattle.usb_plans.specs.Returns.{AnswerEnds, IsReached, IsTold, callback_at, ends_callback, is_answer, is_there}
-use Rattle.usb_plans.proofs.Homes.{homed}
-use Rattle.usb_plans.proofs.Returns.{keeps_callbacks}
+use Rattle.proof_laws.specs.InCallbacks.{AnswerEnds, IsReached, IsTold, callback_at, ends_callback, is_answer, is_there}
+use Rattle.proof_laws.proofs.Homes.{homed}
+use Rattle.proof_laws.proofs.InCallbacks.{keeps_callbacks}
 use Rattle.usb_plans.proofs.Stages.{due, none_called, none_due, reached, taken_out}
-use Rattle.usb_plans.proofs.Verdicts.{answer_own}
+use Rattle.proof_laws.proofs.Verdicts.{answer_own}
 
 -- a verdict ends its callback, or is refused for another cause than that there is no such thing
 abbrev EndsOrNot : Reply → Type 0

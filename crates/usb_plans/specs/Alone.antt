@@ -21,7 +21,7 @@ use Rattle.usb_plans.specs.declared.comparison.Part.{Part}
 use Rattle.usb_plans.specs.declared.plan_run.Performed.{Performed}
 use Rattle.usb_plans.specs.declared.twins.TwinPiece.{TwinPiece}
 use Rattle.usb_plans.specs.Drives.{TakesNext}
-use Rattle.usb_plans.specs.Laws.{uncut_numbers}
+use Rattle.usb_model.specs.Laws.Callbacks.{uncut_numbers}
 use Rattle.usb_plans.specs.PlanRuns.{PlanState, Performs, ShowsStage, entries_of, is_verdict}
 
 -- a step and its entry

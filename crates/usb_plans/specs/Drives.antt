@@ -10,7 +10,8 @@ use Rattle.usb_model.specs.Setup.{Setup}
 use Rattle.usb_model.specs.World.Journal.{IsBeginning, world_run}
 use Rattle.usb_model.specs.World.Plans.{Expands, expand}
 use Rattle.usb_core.specs.Runs.{ObeysLaws}
-use Rattle.usb_plans.specs.Laws.{CallsAfterNumber, CallsInOrder, CallsOnce, SeesAlone}
+use Rattle.usb_model.specs.Laws.Callbacks.{CallsAfterNumber, CallsInOrder, CallsOnce}
+use Rattle.proof_laws.specs.Isolation.{SeesAlone}
 use Rattle.usb_plans.specs.PlanRuns.{Performs, PlanState}
 
 -- the callbacks that are left, and the one that a piece takes: the first of them, where it submits

@@ -19,7 +19,7 @@ use Rattle.usb_model.specs.World.Plans.{FitsReturn, Stage, first_rule, is_submis
 use Rattle.usb_core.specs.Public.{Carries, Kept, ShowsWorld, State}
 use Rattle.usb_core.specs.declared.results.Taken.{Taken}
 use Rattle.usb_plans.specs.declared.plan_run.Performed.{Performed}
-use Rattle.usb_plans.specs.Returns.{IsTold, ends_callback, is_answer, is_there}
+use Rattle.proof_laws.specs.InCallbacks.{IsTold, ends_callback, is_answer, is_there}
 
 -- whether a piece of a plan is a verdict by itself, which no plan holds
 abbrev pub is_verdict : Plan → Bool

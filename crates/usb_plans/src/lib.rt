@@ -1,13 +1,10 @@
-//! Isolation of handles: what each handle sees of a shared system is what it sees alone. And plans over the core, whose
-//! callbacks are called.
+//! Plans over the core, whose callbacks are called; and a handle's steps and plans beside others, and alone.
 //!
-//! The one promise: no step of another handle changes an entry of a handle's own, nor what its plan stands for.
+//! The one promise: what a plan does is the run of steps that it may stand for, and what a handle sees amid the others is what it sees
+//! alone (`proof_laws::isolation`).
 //!
 //! # Files
 //!
-//! - `laws.rt`, specs/Laws: the laws and their statements
-//! - specs/Holders, Whose: who holds what, and whose a step is, read off the world
-//! - specs/Returns: when a transfer is in its callback
 //! - `running_callbacks.rt`: the callbacks that came out and haven't answered, by name and number
 //! - `plan_run.rt`, specs/PlanRuns: one piece of a plan: a step, or a callback that returns; the stage that is shown
 //! - `reads.rt`: what can be asked amid a plan, and how its devices or its core are handed back
@@ -15,26 +12,12 @@
 //! - `comparison.rt`, `own_plan.rt`, specs/Alone: a handle amid the others, and then alone over the same devices: of
 //!   a list of steps; of a plan, with callbacks of its own
 //! - `twins.rt`, specs/Alone: the same of a plan, side by side and piece by piece
-//! - proofs/: one file a question: runs, calls, order, numbers given, verdicts, takes, expansion, plans, endpoints,
-//!   held, owners; how far a run and a plan are, a handle's part of either, and a run beside another (Reached, Apart,
-//!   OwnPlans, ApartPlans, BothRuns)
+//! - proofs/: what a piece stands for, and the stage behind it (OnlySteps, Stages, ToldVerdicts); which callbacks run (TakenCallbacks,
+//!   NoneRuns); how far a run and a plan are, a handle's part of either, and a run beside another (Reached, Apart, OwnPlans, ApartPlans,
+//!   BothRuns)
 //!
 //! # Contracts
 //!
-//! `laws::purge`, `states` and `callbacks` are in the first table, and `drive` stands over them. `held_elsewhere` and
-//! `whose` hold at every world, also where no run leads to it.
-//!
-//! - `laws::plans`: what a handle's part of a plan stands for, under the rules of its own submissions, is the
-//!   handle's part of what the plan stands for. A rule that is Free counts as one that stops
-//! - `laws::plan_steps`: what a plan stands for by `expand`, it may stand for by `Expands`; where no rule is Free, it
-//!   may stand for nothing else
-//! - `laws::held_elsewhere`: a Claim is refused 5, "another handle holds an interface", just where its caller has
-//!   opened a device that isn't gone, the device has the interface, and another handle holds it; a Reset just where
-//!   its caller has opened a device that isn't gone, each endpoint whose interface the caller holds is quiet, and
-//!   another handle holds an interface of the device; any other step never. Then the world stays as it was
-//! - `laws::in_callbacks`: in every world that a run leads to: a Take brings the transfer of its result into its
-//!   callback, with the status and the round that the callback is told; a verdict that isn't refused takes it out; no
-//!   other step touches it. A number is given to a submission alone, and is then in no callback
 //! - `PlanRun::perform`: from a run that shows a stage of a plan: the entries of a piece are those of steps that it
 //!   may stand for (a step is itself; a return is the Answer of a verdict that fits the callback's rule, and, where a
 //!   resubmission is refused for another cause than that there is no such thing, the Stop behind it), and the run
@@ -67,15 +50,10 @@
 //!   performed alone too, and the entries of both are told (`AdvancesBoth`). `print_alone` of `trace_run` stands over
 //!   it
 //! - `PlanRun::taken`: the packet of an index of those that a device took at one of its endpoints, held or not
-//! - `laws::whose`: the owner of an entry is the caller; for Serve, who holds the endpoint's interface; for Command,
-//!   Deliver and Take, the name of the first piece. There is none just for an Unplug, a Serve of an endpoint that has
-//!   no interface or a free one, and a Command, Deliver or Take of an empty list. Such a step, but for an Unplug, is
-//!   idle and changes nothing
 #![tactic(auto)]
 
 mod comparison;
 mod drives;
-pub mod laws;
 mod own_plan;
 mod plan_run;
 mod reads;

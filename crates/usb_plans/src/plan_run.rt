@@ -8,7 +8,7 @@ ghost use Rattle.usb_model.specs.declared.verdict.Rule.{Rule};
 ghost use Rattle.usb_model.specs.Numbers.{takes_payload};
 ghost use Rattle.usb_model.specs.World.Plans.{first_stage, is_submission};
 ghost use Rattle.usb_core.specs.Public.{setup_of};
-ghost use Rattle.usb_plans.specs.Returns.{is_answer};
+ghost use Rattle.proof_laws.specs.InCallbacks.{is_answer};
 ghost use Rattle.usb_plans.specs.PlanRuns.{Calls, CallsThere, MakesAnswer, MakesStep, Performs, Returns, RunBehind, RunBehindReturn, RunBehindStep, RunsToo, ShowsStage, entries_of, is_verdict};
 
 use crate::running_callbacks::RunningCallbacks;

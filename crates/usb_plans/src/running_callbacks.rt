@@ -2,7 +2,7 @@
 
 ghost use Rattle.std.specs.Prelude.{◌≡◌, ℕ, ◌==◌, None, Some, IfOk, if◌then◌else◌};
 ghost use Rattle.usb_plans.specs.PlanRuns.{running_at, running_in};
-ghost use Rattle.usb_plans.specs.Returns.{is_there};
+ghost use Rattle.proof_laws.specs.InCallbacks.{is_there};
 
 use std::alloc::{AllocError, Global};
 use std::collections::HashMap;

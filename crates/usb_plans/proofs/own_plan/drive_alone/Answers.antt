@@ -4,7 +4,7 @@ use Rattle.std.specs.List.{count_by}
 use Rattle.std.specs.Prelude.{map}
 use Rattle.usb_model.specs.World.Plans.{is_submission}
 use Rattle.usb_core.specs.Public.{setup_of}
-use Rattle.usb_plans.proofs.Plans.{AreFixed}
+use Rattle.proof_laws.proofs.Plans.{AreFixed}
 use Rattle.usb_plans.proofs.OwnPlans.{as_many, compared}
 use Rattle.usb_plans.proofs.own_plan.drive_alone.Goals as goal
 

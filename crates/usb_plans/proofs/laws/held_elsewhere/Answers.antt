@@ -1,8 +1,0 @@
-use Rattle.usb_plans.proofs.Held.{tells_of_another, changes_nothing_for_another}
-use Rattle.usb_plans.proofs.laws.held_elsewhere.Goals as goal
-
-pub returns-clause-told : goal.returns-clause-told
-returns-clause-told c = tells_of_another
-
-pub returns-clause-unchanged : goal.returns-clause-unchanged
-returns-clause-unchanged c = changes_nothing_for_another
