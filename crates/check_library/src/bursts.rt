@@ -12,7 +12,7 @@ use std::sync::Wait;
 use std::thread::Threads;
 use usb_journal::Place;
 use usb_model::Step;
-use usb_workers::{BURST, Point};
+use usb_workers::{BURST, WorkerStep};
 
 /// How many packets of 8 bytes a read has: more than a row.
 const PACKETS: usize = 200;
@@ -50,7 +50,7 @@ fn packets_between(places: &[Place]) -> Option<u32> {
 pub fn rows_have_a_bound<R: Threads + Wait + Sync>(rt: &R, alloc: Global) -> Result<()> {
     let reader = Reader::new(1, 0, 0)?;
     let setup = devices(alloc, 1, 8, &SIZES)?;
-    let stop = Stop(Point::Serve, 2);
+    let stop = Stop(WorkerStep::Serve, 2);
     let seen = play(rt, alloc, setup, stop, BURST, &[reader], &[&ACTS])?;
     match packets_between(seen.places.as_slice()) {
         Some(BURST) => Ok(()),

@@ -6,7 +6,7 @@ use crate::callback::Manner;
 use crate::scene::Scene;
 use crate::signals::Mark;
 use crate::turnstile::{NOWHERE, Stop};
-use usb_workers::Point;
+use usb_workers::WorkerStep;
 
 /// A read of 8 bytes, once it isn't refused as busy.
 const READ_8_IN_TIME: Act = Act::InTime(READ_8);
@@ -49,7 +49,7 @@ const HELD_CALLBACK: Scene = Scene {
 const TWO_LOOPS: Scene = Scene {
     line: "two loops: a callback is called while the controller waits",
     sizes: &[8, 8],
-    stops: &[Stop(Point::Serve, 2)],
+    stops: &[Stop(WorkerStep::Serve, 2)],
     threads: &[&[
         OPEN,
         CLAIM,
@@ -67,12 +67,12 @@ const CANCEL_POINTS: Scene = Scene {
     line: "cancel points: cancelled at each point, called back once, and closed",
     sizes: &[8, 8, 3],
     stops: &[
-        Stop(Point::Serve, 1),
-        Stop(Point::Command, 1),
-        Stop(Point::Deliver, 1),
-        Stop(Point::Take, 1),
-        Stop(Point::Call, 1),
-        Stop(Point::Answer, 1),
+        Stop(WorkerStep::Serve, 1),
+        Stop(WorkerStep::Command, 1),
+        Stop(WorkerStep::Deliver, 1),
+        Stop(WorkerStep::Take, 1),
+        Stop(WorkerStep::Call, 1),
+        Stop(WorkerStep::Answer, 1),
     ],
     threads: &[&[
         OPEN,
@@ -97,7 +97,7 @@ const CANCEL_POINTS: Scene = Scene {
 const CLOSE_AMID_ROUNDS: Scene = Scene {
     line: "close amid rounds: refused while a callback is out, done after the last",
     sizes: &[1, 1, 1, 1],
-    stops: &[Stop(Point::Answer, 1)],
+    stops: &[Stop(WorkerStep::Answer, 1)],
     threads: &[&[
         OPEN,
         CLAIM,
@@ -144,9 +144,9 @@ const EVENTS_AFTER_REST: Scene = Scene {
     line: "events after rest: each wakes a worker that has parked, and the endpoint goes on",
     sizes: &[8, 8],
     stops: &[
-        Stop(Point::Deliver, 1),
-        Stop(Point::Deliver, 2),
-        Stop(Point::Deliver, 3),
+        Stop(WorkerStep::Deliver, 1),
+        Stop(WorkerStep::Deliver, 2),
+        Stop(WorkerStep::Deliver, 3),
     ],
     threads: &[&[
         OPEN,
@@ -171,7 +171,7 @@ const EVENTS_AFTER_REST: Scene = Scene {
 const LOOK_THEN_PARK: Scene = Scene {
     line: "look then park: a submission in between wakes",
     sizes: &[8],
-    stops: &[Stop(Point::Serve, 1)],
+    stops: &[Stop(WorkerStep::Serve, 1)],
     threads: &[
         &[
             OPEN,

@@ -2,19 +2,19 @@
 
 use crate::signals::{Mark, Signals};
 use std::sync::Wait;
-use usb_workers::{Gate, Gates, Point};
+use usb_workers::{Gate, Gates, WorkerStep};
 
 /// Where a worker is held: at this point, when it comes there for the nth time, counted from 1; 0 holds nobody.
 #[derive(Clone, Copy)]
-pub struct Stop(pub Point, pub u64);
+pub struct Stop(pub WorkerStep, pub u64);
 
 /// No worker is held.
-pub const NOWHERE: Stop = Stop(Point::Take, 0);
+pub const NOWHERE: Stop = Stop(WorkerStep::Take, 0);
 
 /// The gate of a worker, which is held at its stop.
 #[derive(Drop)]
 pub struct Turnstile<'a> {
-    at: Point,
+    at: WorkerStep,
     /// How many times the point is still to be passed.
     nth: u64,
     /// How many steps may follow one pass.
@@ -44,7 +44,7 @@ impl<'a> Turnstile<'a> {
 }
 
 impl<'a> Gate for Turnstile<'a> {
-    fn pass<R: Wait>(&mut self, _rt: &R, at: Point) {
+    fn pass<R: Wait>(&mut self, _rt: &R, at: WorkerStep) {
         if at != self.at || self.nth == 0 {
             return;
         }

@@ -12,7 +12,7 @@ use Rattle.usb_model.specs.World.{Claims, World, holder}
 use Rattle.usb_model.specs.Kept.{KeptEndpoint}
 use Rattle.usb_model.specs.Packets.{Answered}
 use Rattle.usb_device.specs.Pipe.{answer_of, pipe_at}
-use Rattle.usb_xhc.specs.declared.packet.Packet.{Packet as ServedPacket}
+use Rattle.usb_xhc.specs.declared.packet.PacketResult.{PacketResult as ServedPacket}
 use Rattle.usb_xhc.specs.declared.trb_at.TrbAt.{TrbAt}
 use Rattle.usb_xhc.specs.Context.{Context}
 use Rattle.usb_xhc.specs.Transaction.{working}

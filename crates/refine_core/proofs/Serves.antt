@@ -16,7 +16,7 @@ use Rattle.usb_model.specs.Kept.{KeptEndpoint, KeptTransfer, SentErrand, first_p
 use Rattle.usb_model.specs.Events.{find_at, past_at, past_kept_blanks}
 use Rattle.usb_model.specs.Packets.{Answered, Packet, answer_now, answered_by, answered_gone, endpoint_with, gave, got, packet_now, put_at, sent_before, serve_at, serve_kept}
 use Rattle.usb_tables.specs.declared.transfer.Transfer.{Transfer as InFlight}
-use Rattle.usb_xhc.specs.declared.packet.Packet.{Packet as ServedPacket}
+use Rattle.usb_xhc.specs.declared.packet.PacketResult.{PacketResult as ServedPacket}
 use Rattle.usb_xhc.specs.declared.trb_at.TrbAt.{TrbAt}
 use Rattle.usb_xhc.specs.Context.{Context}
 use Rattle.usb_xhc.specs.Transaction.{packet_room, working}

@@ -12,8 +12,8 @@ use Rattle.usb_model.specs.World.{World, holder, turn}
 use Rattle.usb_model.specs.Kept.{InRow, KeptEndpoint, KeptTransfer}
 use Rattle.usb_device.specs.Pipe.{answer_of, pipe_at}
 use Rattle.usb_tables.specs.declared.transfer.Transfer.{Transfer as InFlight}
-use Rattle.usb_xhc.specs.declared.packet.Packet.{Packet as ServedPacket}
-use Rattle.usb_xhc.specs.declared.packet.Packet.TheVariants as served
+use Rattle.usb_xhc.specs.declared.packet.PacketResult.{PacketResult as ServedPacket}
+use Rattle.usb_xhc.specs.declared.packet.PacketResult.TheVariants as served
 use Rattle.usb_xhc.specs.declared.trb_at.TrbAt.{TrbAt}
 use Rattle.usb_xhc.specs.Context.{Context}
 use Rattle.usb_xhc.specs.Controller.{Controller, served_at, told_at}

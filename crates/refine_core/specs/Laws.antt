@@ -7,8 +7,8 @@ use Rattle.usb_xhc.specs.Context.{Context}
 use Rattle.usb_xhc.specs.Host.{rung, with_blank, with_pushed, with_ring, without_first}
 use Rattle.usb_xhc.specs.Posts.{posted_one}
 use Rattle.usb_xhc.specs.Transaction.{working}
-use Rattle.usb_xhc.specs.declared.packet.Packet.{Packet as ServedPacket}
-use Rattle.usb_xhc.specs.declared.packet.Packet.TheVariants as served
+use Rattle.usb_xhc.specs.declared.packet.PacketResult.{PacketResult as ServedPacket}
+use Rattle.usb_xhc.specs.declared.packet.PacketResult.TheVariants as served
 use Rattle.usb_xhc.specs.declared.trb_at.TrbAt.{TrbAt}
 use Rattle.usb_tables.specs.ByEndpoint.{lane_at}
 use Rattle.usb_tables.specs.TransfersInFlight.{TransfersInFlight, blanked_at, item_at, left_at, line_at, with_item, with_last}

@@ -17,7 +17,7 @@ use Rattle.usb_trb.specs.declared.kind.TrbKind.{TrbKind}
 use Rattle.usb_trb.specs.declared.kind.TrbKind.TheVariants.{ResetEndpoint, SetDequeue, StopEndpoint}
 use Rattle.usb_rings.specs.Places.{address_of, cycle_of}
 use Rattle.usb_rings.specs.Line.{IsAt as IsInRing, place_of, places}
-use Rattle.usb_xhc.specs.declared.packet.Packet.{Packet as ServedPacket}
+use Rattle.usb_xhc.specs.declared.packet.PacketResult.{PacketResult as ServedPacket}
 use Rattle.usb_xhc.specs.declared.trb_at.TrbAt.{TrbAt}
 use Rattle.usb_xhc.specs.Transaction.{working}
 use Rattle.usb_model.specs.Kept.{KeptEndpoint, KeptTransfer}

@@ -21,7 +21,7 @@ use Rattle.usb_model.specs.Events.{find_at}
 use Rattle.usb_model.specs.Packets.{Answered, Packet, answer_now, answered_by, answered_gone, endpoint_with, event_at, gave, got, packet_now, put_at, room_at, sent_before, serve_at, serve_kept, walk}
 use Rattle.usb_device.specs.Pipe.{Pipe, answer_of, bytes_after, pipe_after}
 use Rattle.usb_rings.specs.Line.{places}
-use Rattle.usb_xhc.specs.declared.packet.Packet.TheVariants as told
+use Rattle.usb_xhc.specs.declared.packet.PacketResult.TheVariants as told
 use Rattle.usb_xhc.specs.declared.trb_at.TrbAt.{TrbAt}
 use Rattle.usb_xhc.specs.Ahead.{ahead, lengths}
 use Rattle.usb_xhc.specs.Context.{Context, event_by, gone_on, gone_past, stand_by, trbs}

@@ -12,7 +12,7 @@ use Rattle.usb_model.specs.Kept.{KeptEndpoint, KeptTransfer}
 use Rattle.usb_model.specs.Events.{find_at}
 use Rattle.usb_model.specs.Packets.{Answered, answer_now, got, packet_now, serve_at, serve_kept}
 use Rattle.usb_device.specs.Pipe.{Pipe, answer_of, pipe_at}
-use Rattle.usb_xhc.specs.declared.packet.Packet.{Packet as Told}
+use Rattle.usb_xhc.specs.declared.packet.PacketResult.{PacketResult as Told}
 use Rattle.usb_xhc.specs.declared.trb_at.TrbAt.{TrbAt}
 use Rattle.usb_xhc.specs.Context.{Context}
 use Rattle.usb_xhc.specs.Posts.{posted_all}

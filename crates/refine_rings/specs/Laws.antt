@@ -23,7 +23,7 @@ use Rattle.usb_device.specs.Pipe.{IsLawful, Pipe, cleared, pipe_at}
 use Rattle.usb_tables.specs.Tds.{tds_of}
 use Rattle.usb_tables.specs.Trbs.{normals_of}
 use Rattle.usb_rings.specs.Line.{capacity, normals, used}
-use Rattle.usb_xhc.specs.declared.packet.Packet.{Packet as Told}
+use Rattle.usb_xhc.specs.declared.packet.PacketResult.{PacketResult as Told}
 use Rattle.usb_xhc.specs.Context.{Context}
 use Rattle.usb_xhc.specs.Host.{rung, with_ring, with_pushed, with_blank, without_first}
 use Rattle.usb_xhc.specs.Posts.{posted_one}

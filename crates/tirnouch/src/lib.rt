@@ -77,6 +77,6 @@ pub use usb_model::{
     Returned, Rule, Script, Sequence, Status, StatusSet, Step, Verdict,
 };
 pub use usb_workers::{
-    BURST, Driver, Gate, Gates, Lived, Moments, Open, Point, controller_loop, event_loop, live,
-    live_gated,
+    BURST, Driver, Gate, Gates, Lived, Moments, Open, WorkerStep, controller_loop, event_loop,
+    live, live_gated,
 };

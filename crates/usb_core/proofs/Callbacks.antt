@@ -21,7 +21,7 @@ use Rattle.refine_core.specs.Submissions.{Admits}
 use Rattle.refine_core.proofs.Again.{again_none, again_refused}
 use Rattle.refine_core.proofs.Stops.{Ended}
 use Rattle.usb_core.specs.Submissions.{AgainAt, IsResubmission}
-use Rattle.usb_core.specs.declared.submission.Place.{Place}
+use Rattle.usb_core.specs.declared.submission.Admission.{Admission}
 
 -- room is asked for, and the callback is taken
 pub ended_by : (old room new : List HandleState) (h n : ℕ) (o : Option InCallback) → SameNumbers old room → SameCallbacks old room → SameResults old room → SameCounts old room → o ≡ callback_at room h n
@@ -46,9 +46,9 @@ module _ {P : Type 0} where
       by_found (Some x) found refused = again_refused s h n Again x x.request why found refl refused
 
   -- what is accepted
-  pub admits_again : (s : State P) (h n : ℕ) (x : InCallback) (place : Place) → callback_at s.callers h n ≡ Some x → IsResubmission s h n (Ok place)
-      → (setup : Setup) (w : World) (c : Core) → Keeps setup s c → Shows setup w c → Admits setup s c h place.dev x.request place.tds
-  admits_again s h n x place found is = subst (λ (o : Option InCallback). AgainAt s h o (Ok place)) found is
+  pub admits_again : (s : State P) (h n : ℕ) (x : InCallback) (admission : Admission) → callback_at s.callers h n ≡ Some x → IsResubmission s h n (Ok admission)
+      → (setup : Setup) (w : World) (c : Core) → Keeps setup s c → Shows setup w c → Admits setup s c h admission.dev x.request admission.tds
+  admits_again s h n x admission found is = subst (λ (o : Option InCallback). AgainAt s h o (Ok admission)) found is
 
 -- it isn't in its callback once that ended
 pub absent : (amid : List HandleState) (old : List HandleState) (h n k : ℕ) → k ≡ n → Ended old amid h n → callback_at amid h k ≡ None
@@ -56,5 +56,5 @@ absent amid old h n k number ended =
     ap (callback_at amid h) number ∙ ended.callbacks h n ∙ ap (λ (b : Bool). if b && (n == n) then None else callback_at old h n) (same_name h) ∙ ap (λ (b : Bool). if b then None else callback_at old h n) (same_name n)
 
 -- a submission is accepted there
-abbrev pub AdmitsIt : {P : Type 0} → State P → ℕ → Request → Place → Type 0
-AdmitsIt s h request place = (setup : Setup) (w : World) (c : Core) → Keeps setup s c → Shows setup w c → Admits setup s c h place.dev request place.tds
+abbrev pub AdmitsIt : {P : Type 0} → State P → ℕ → Request → Admission → Type 0
+AdmitsIt s h request admission = (setup : Setup) (w : World) (c : Core) → Keeps setup s c → Shows setup w c → Admits setup s c h admission.dev request admission.tds

@@ -5,7 +5,7 @@ use Rattle.std.specs.Option.{option_and_then}
 use Rattle.usb_model.specs.declared.reply.Reply.TheVariants.{Idle}
 use Rattle.usb_model.specs.declared.step.Step.TheVariants.{Serve}
 use Rattle.usb_device.specs.Pipe.{answer_of, pipe_at}
-use Rattle.usb_xhc.specs.declared.packet.Packet.{Packet as ServedPacket}
+use Rattle.usb_xhc.specs.declared.packet.PacketResult.{PacketResult as ServedPacket}
 use Rattle.usb_xhc.specs.declared.trb_at.TrbAt.{TrbAt}
 use Rattle.usb_xhc.specs.Context.{Context}
 use Rattle.usb_xhc.specs.Transaction.{working}

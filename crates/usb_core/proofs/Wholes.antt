@@ -5,7 +5,7 @@ use Rattle.usb_model.specs.declared.request.Body.{Body}
 use Rattle.usb_model.specs.declared.request.Body.TheVariants.{Out}
 use Rattle.usb_model.specs.declared.step.Step.TheVariants.{Serve}
 use Rattle.usb_tables.specs.declared.transfer.Transfer.{Transfer as InFlight}
-use Rattle.usb_xhc.specs.declared.packet.Packet.TheVariants.{Moved}
+use Rattle.usb_xhc.specs.declared.packet.PacketResult.TheVariants.{Moved}
 use Rattle.usb_xhc.specs.Controller.{Controller, told_at}
 use Rattle.usb_xhc.specs.Skims.{controller_skimmed, size_at}
 use Rattle.usb_xhc.specs.Slots.{DeviceSlot, sends}

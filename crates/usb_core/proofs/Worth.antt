@@ -12,8 +12,8 @@ use Rattle.usb_model.specs.World.{Claims, World, holder}
 use Rattle.usb_model.specs.Packets.{Answered, Packet}
 use Rattle.usb_device.specs.Pipe.{Pipe, answer_of, first_of, is_ready, pipe_at}
 use Rattle.usb_tables.specs.declared.transfer.Transfer.{Transfer as InFlight}
-use Rattle.usb_xhc.specs.declared.packet.Packet.{Packet as ServedPacket}
-use Rattle.usb_xhc.specs.declared.packet.Packet.TheVariants as told
+use Rattle.usb_xhc.specs.declared.packet.PacketResult.{PacketResult as ServedPacket}
+use Rattle.usb_xhc.specs.declared.packet.PacketResult.TheVariants as told
 use Rattle.usb_xhc.specs.declared.trb_at.TrbAt.{TrbAt}
 use Rattle.usb_xhc.specs.Context.{Context}
 use Rattle.usb_xhc.specs.Transaction.{packet_in, served, served_by, served_gone, working}

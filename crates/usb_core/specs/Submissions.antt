@@ -10,17 +10,17 @@ use Rattle.usb_tables.specs.HandleStates.{callback_at}
 use Rattle.refine_world.specs.Shows.{Core, Shows}
 use Rattle.refine_core.specs.State.{Keeps, State}
 use Rattle.refine_core.specs.Submissions.{Admits, RefusesIt}
-use Rattle.usb_core.specs.declared.submission.Place.{Place}
+use Rattle.usb_core.specs.declared.submission.Admission.{Admission}
 
 -- it is refused, or accepted there
-abbrev pub PlaceIs : {P : Type 0} → Setup → State P → Core → ℕ → Request → Result Place Refused → Type 0
-PlaceIs setup s c h request (Err why) = RefusesIt setup c h request why
-PlaceIs setup s c h request (Ok x) = Admits setup s c h x.dev request x.tds
+abbrev pub IsAdmission : {P : Type 0} → Setup → State P → Core → ℕ → Request → Result Admission Refused → Type 0
+IsAdmission setup s c h request (Err why) = RefusesIt setup c h request why
+IsAdmission setup s c h request (Ok x) = Admits setup s c h x.dev request x.tds
 
 -- of the transfer of a callback: where it is to join its line once more, or what it is refused for
-abbrev pub AgainAt : {P : Type 0} → State P → ℕ → Option InCallback → Result Place Refused → Type 0
+abbrev pub AgainAt : {P : Type 0} → State P → ℕ → Option InCallback → Result Admission Refused → Type 0
 AgainAt s h None r = r ≡ Err NotFound
-AgainAt s h (Some x) r = (setup : Setup) (w : World) (c : Core) → Keeps setup s c → Shows setup w c → PlaceIs setup s c h x.request r
+AgainAt s h (Some x) r = (setup : Setup) (w : World) (c : Core) → Keeps setup s c → Shows setup w c → IsAdmission setup s c h x.request r
 
-abbrev pub IsResubmission : {P : Type 0} → State P → (h n : ℕ) → Result Place Refused → Type 0
+abbrev pub IsResubmission : {P : Type 0} → State P → (h n : ℕ) → Result Admission Refused → Type 0
 IsResubmission s h n r = AgainAt s h (callback_at s.callers h n) r

@@ -19,7 +19,7 @@ use crate::{Parts, Setup, SubmitError, Taken};
 use std::alloc::{AllocError, Global};
 use std::marker::Model;
 use usb_device::Device;
-use usb_model::{Buffer, Bytes, DeviceNo, Entry, EpAddr, Name, Reply, Request, Step};
+use usb_model::{Buffer, Bytes, DeviceNo, Entry, EpAddr, Name, Refused, Reply, Request, Step};
 
 /// The library's core: every step of every name is made here, over the memory of real rings. Contracts see what it
 /// keeps, and say of it which world it shows (`ShowsWorld`); it always shows one. Each call is a turn of that world
@@ -111,7 +111,27 @@ impl<P, D: Device> Core<P, D> {
         ensures carries { IfOk result (λ n. CarriesMore h n payload self.old self.new) }
         ensures still { OnErr result (StillCarries self.old self.new) }
     {
-        self.parts.submit(h, request, payload, memory)
+        let admission = match self.parts.admit(h, &request) {
+            Ok(admission) => admission,
+            Err(why) => {
+                return Err(SubmitError {
+                    why,
+                    given: request,
+                    payload,
+                });
+            }
+        };
+        match self
+            .parts
+            .start_into(h, admission, request, 0, payload, memory)
+        {
+            Ok(n) => Ok(n),
+            Err(unmade) => Err(SubmitError {
+                why: Refused::NoMem,
+                given: unmade.request,
+                payload: unmade.payload,
+            }),
+        }
     }
 
     /// Asks a transfer to end whose time is over (libusb 1.0, `libusb_transfer`, `timeout`). NotFound as for `cancel`,

@@ -16,7 +16,7 @@ use crate::parts::Parts;
 use usb_device::Device;
 use usb_model::{Body, DeviceNo, Entry, EpAddr, Reply};
 use usb_tables::{Transfer, TransfersInFlight};
-use usb_xhc::{Controller, Packet};
+use usb_xhc::{Controller, PacketResult};
 
 impl<P, D: Device> Parts<P, D> {
     /// One packet of the transfer where the controller works at an endpoint. Nobody's and Idle where nobody holds the
@@ -67,7 +67,7 @@ fn serve_item<P, D: Device>(
     ep: EpAddr,
     item: usize,
     controller: &mut Controller<D>,
-) -> Option<(u64, Packet)>
+) -> Option<(u64, PacketResult)>
     requires item { IsSome (item_at flights.old dev ep item) }
     requires serves { IfSome (item_at flights.old dev ep item) (λ t. CanServe controller.old dev ep t.request.body t) }
     requires room { length controller.old.events.waits < 4095 }
@@ -89,7 +89,7 @@ fn serve<P, D: Device>(
     dev: DeviceNo,
     ep: EpAddr,
     controller: &mut Controller<D>,
-) -> Option<Packet>
+) -> Option<PacketResult>
     requires served { CanServe controller.old dev ep transfer.old.request.body transfer.old }
     requires room { length controller.old.events.waits < 4095 }
     ensures packet { result ≡ told_at controller.old dev ep }
@@ -103,12 +103,12 @@ fn serve<P, D: Device>(
 }
 
 /// What a packet of the transfer of this number is replied with.
-fn reply_of(n: u64, told: Packet) -> Reply
+fn reply_of(n: u64, told: PacketResult) -> Reply
     ensures { result ≡ reply_of n told }
 {
     match told {
-        Packet::Nak => Reply::Nak { n },
-        Packet::Moved(bytes) => Reply::Moved { n, bytes },
-        Packet::Ended(code) => Reply::Ended { n, code },
+        PacketResult::Nak => Reply::Nak { n },
+        PacketResult::Moved(bytes) => Reply::Moved { n, bytes },
+        PacketResult::Ended(code) => Reply::Ended { n, code },
     }
 }

@@ -4,7 +4,7 @@ ghost use Rattle.std.specs.Prelude.{◌≡◌, ◌+◌, ◌≤◌, ◌<◌, ◌�
 ghost use Rattle.usb_tables.specs.TransfersInFlight.{item_at};
 ghost use Rattle.usb_model.specs.declared.step.Step.TheVariants.{Serve};
 ghost use Rattle.usb_tables.specs.declared.transfer.Transfer.{Transfer as InFlight};
-ghost use Rattle.usb_xhc.specs.declared.packet.Packet.TheVariants.{Moved};
+ghost use Rattle.usb_xhc.specs.declared.packet.PacketResult.TheVariants.{Moved};
 ghost use Rattle.usb_xhc.specs.Controller.{told_at};
 ghost use Rattle.usb_xhc.specs.Skims.{controller_skimmed, size_at};
 ghost use Rattle.refine_core.specs.Packets.{CanSkim, IsSkimmed, Skims, out_of};

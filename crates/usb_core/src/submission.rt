@@ -2,22 +2,17 @@
 
 ghost use Rattle.std.specs.Prelude.{◌≡◌, ◌<◌, ℕ, [], false, slice_get, IfErr, IfOk, OnErr, OnOk, Some};
 ghost use Rattle.std.specs.Option.{option_map_or};
-ghost use Rattle.usb_model.specs.declared.refused.Refused.TheVariants.{NoMem};
-ghost use Rattle.usb_model.specs.declared.reply.Reply.TheVariants.{Number, Refused as IsRefused};
-ghost use Rattle.usb_model.specs.declared.step.Step.TheVariants.{Submit};
 ghost use Rattle.usb_model.specs.Buffer.{no_memory};
 ghost use Rattle.usb_model.specs.Setup.{Setup};
 ghost use Rattle.usb_model.specs.World.{World};
 ghost use Rattle.usb_tables.specs.Tds.{memory_left};
 ghost use Rattle.usb_tables.specs.HandleStates.{number_of};
 ghost use Rattle.refine_world.specs.Shows.{Core, Shows};
-ghost use Rattle.refine_core.specs.Calls.{Stays};
-ghost use Rattle.refine_core.specs.Payloads.{CarriesMore, StillCarries};
+ghost use Rattle.refine_core.specs.Payloads.{CarriesMore};
 ghost use Rattle.refine_core.specs.State.{IsState, Keeps};
-ghost use Rattle.refine_core.specs.Steps.{DoesCoreStep};
 ghost use Rattle.refine_core.specs.Submissions.{CanStart};
 ghost use Rattle.refine_core.specs.Works.{Starts};
-ghost use Rattle.usb_core.specs.Submissions.{PlaceIs};
+ghost use Rattle.usb_core.specs.Submissions.{IsAdmission};
 
 use crate::parts::Parts;
 use std::{fmt, mem};
@@ -46,9 +41,9 @@ impl<G, P> fmt::Debug for SubmitError<G, P> {
     }
 }
 
-/// Where a transfer is to join a line.
+/// That a transfer is accepted: where it is to join a line, and as what.
 #[derive(Clone, Copy, PartialEq, Eq, Debug)]
-pub(crate) struct Place {
+pub(crate) struct Admission {
     /// Its device.
     pub(crate) dev: DeviceNo,
     /// Its TDs.
@@ -74,48 +69,6 @@ fn unmade_of<P>(transfer: Transfer<P>, held: usize, memory: &mut Buffer) -> Make
 }
 
 impl<P, D: Device> Parts<P, D> {
-    /// A transfer joins the line of its endpoint, under the number that is given. Refused where the endpoint isn't the
-    /// name's, the device is gone, the kind is not supported or another's, direction or length is wrong, or no place or
-    /// number is left; NoMem, with nothing changed, where memory is refused. Request, payload and memory then come back. The
-    /// bytes that are read go into `memory` where that has room for just these, and it is left without.
-    pub fn submit(
-        &mut self,
-        h: Name,
-        request: Request,
-        payload: P,
-        memory: &mut Buffer,
-    ) -> Result<u64, SubmitError<Request, P>>
-        requires { IsState self.old }
-        ensures accepted { IfOk result (λ n. DoesCoreStep self.old (Submit h request) (record { owner = Some h; reply = Number n }) self.new) }
-        ensures given { IfErr result (λ x. x.given ≡ request) }
-        ensures back { IfErr result (λ x. x.payload ≡ payload) }
-        ensures refused { IfErr result (λ x. (x.why ≡ NoMem → ⊥) → DoesCoreStep self.old (Submit h request) (record { owner = Some h; reply = IsRefused x.why }) self.new) }
-        ensures kept { OnErr result (Stays self.old self.new) }
-        ensures memory { OnOk result (memory.new ≡ memory_left request.body memory.old) }
-        ensures room { OnErr result (memory.new ≡ record memory.old { items = memory.new.items }) }
-        ensures carries { IfOk result (λ n. CarriesMore h n payload self.old self.new) }
-        ensures still { OnErr result (StillCarries self.old self.new) }
-    {
-        let place = match self.place(h, &request) {
-            Ok(place) => place,
-            Err(why) => {
-                return Err(SubmitError {
-                    why,
-                    given: request,
-                    payload,
-                });
-            }
-        };
-        match self.start_into(h, place, request, 0, payload, memory) {
-            Ok(n) => Ok(n),
-            Err(unmade) => Err(SubmitError {
-                why: Refused::NoMem,
-                given: unmade.request,
-                payload: unmade.payload,
-            }),
-        }
-    }
-
     /// No memory for bytes, where a submission is to take its own.
     pub fn no_memory(&self) -> Buffer
         ensures { result ≡ no_memory }
@@ -123,10 +76,10 @@ impl<P, D: Device> Parts<P, D> {
         Buffer::new(self.alloc)
     }
 
-    /// Where a transfer is to join a line, or what it is refused for.
-    pub(crate) fn place(&self, h: Name, request: &Request) -> Result<Place, Refused>
+    /// Whether a transfer is accepted, where it is to join a line, or what it is refused for.
+    pub(crate) fn admit(&self, h: Name, request: &Request) -> Result<Admission, Refused>
         requires { IsState self.now }
-        ensures { (setup : Setup) (w : World) (c : Core) → Keeps setup self.now c → Shows setup w c → PlaceIs setup self.now c h request.now result }
+        ensures { (setup : Setup) (w : World) (c : Core) → Keeps setup self.now c → Shows setup w c → IsAdmission setup self.now c h request.now result }
     {
         let ep = request.ep;
         let Some(dev) = self.claims.device_of(h) else {
@@ -149,48 +102,48 @@ impl<P, D: Device> Parts<P, D> {
         if self.callers.next_number(h) == LAST_NUMBER {
             return Err(Refused::Busy);
         }
-        Ok(Place { dev, tds })
+        Ok(Admission { dev, tds })
     }
 
     /// A transfer joins a line, under the name's next number. Not made, with nothing changed, where memory is refused.
     pub(crate) fn start(
         &mut self,
         h: Name,
-        place: Place,
+        admission: Admission,
         request: Request,
         round: u64,
         payload: P,
     ) -> Result<u64, MakeTransferError<P>>
-        requires { CanStart self.old h place.dev request place.tds }
+        requires { CanStart self.old h admission.dev request admission.tds }
         ensures number { IfOk result (λ n. n ≡ number_of self.old.callers h) }
-        ensures started { IfOk result (λ _. Starts self.old self.new h place.dev request.ep request round) }
+        ensures started { IfOk result (λ _. Starts self.old self.new h admission.dev request.ep request round) }
         ensures back { IfErr result (λ u. u ≡ record { request = request; payload = payload }) }
         ensures kept { OnErr result (self.new ≡ self.old) }
         ensures carries { IfOk result (λ n. CarriesMore h n payload self.old self.new) }
     {
-        self.start_into(h, place, request, round, payload, &mut self.no_memory())
+        self.start_into(h, admission, request, round, payload, &mut self.no_memory())
     }
 
     /// The same; it reads into `memory`, where that has room for just its bytes.
-    fn start_into(
+    pub(crate) fn start_into(
         &mut self,
         h: Name,
-        place: Place,
+        admission: Admission,
         request: Request,
         round: u64,
         payload: P,
         memory: &mut Buffer,
     ) -> Result<u64, MakeTransferError<P>>
-        requires { CanStart self.old h place.dev request place.tds }
+        requires { CanStart self.old h admission.dev request admission.tds }
         ensures number { IfOk result (λ n. n ≡ number_of self.old.callers h) }
-        ensures started { IfOk result (λ _. Starts self.old self.new h place.dev request.ep request round) }
+        ensures started { IfOk result (λ _. Starts self.old self.new h admission.dev request.ep request round) }
         ensures back { IfErr result (λ u. u ≡ record { request = request; payload = payload }) }
         ensures kept { OnErr result (self.new ≡ self.old) }
         ensures memory { OnOk result (memory.new ≡ memory_left request.body memory.old) }
         ensures room { OnErr result (memory.new ≡ record memory.old { items = memory.new.items }) }
         ensures carries { IfOk result (λ n. CarriesMore h n payload self.old self.new) }
     {
-        let (dev, ep) = (place.dev, request.ep);
+        let (dev, ep) = (admission.dev, request.ep);
         let n = self.callers.next_number(h);
         let held = memory.capacity();
         let transfer = Transfer::new(self.alloc, h, n, request, round, payload, memory)?;
@@ -198,7 +151,7 @@ impl<P, D: Device> Parts<P, D> {
             Ok(key) => key,
             Err(transfer) => return Err(unmade_of(transfer, held, memory)),
         };
-        let trbs = place.tds.trbs(key);
+        let trbs = admission.tds.trbs(key);
         self.controller.push(dev, ep, trbs.as_slice());
         self.callers.count_up(h);
         Ok(n)

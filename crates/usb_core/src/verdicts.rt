@@ -14,7 +14,7 @@ ghost use Rattle.refine_core.specs.Steps.{DoesCoreStep};
 ghost use Rattle.usb_core.specs.Submissions.{IsResubmission};
 
 use crate::parts::Parts;
-use crate::submission::{Place, SubmitError};
+use crate::submission::{Admission, SubmitError};
 use usb_device::Device;
 use usb_model::{Body, Bytes, InCallback, Name, Refused, Reply, Request};
 
@@ -68,8 +68,8 @@ impl<P, D: Device> Parts<P, D> {
         ensures carries { IfOk result (λ k. CarriesMore h k payload self.old self.new) }
         ensures still { OnErr result (StillCarries self.old self.new) }
     {
-        let place = match self.place_again(h, n) {
-            Ok(place) => place,
+        let admission = match self.admit_again(h, n) {
+            Ok(admission) => admission,
             Err(why) => {
                 return Err(SubmitError {
                     why,
@@ -89,7 +89,7 @@ impl<P, D: Device> Parts<P, D> {
             unreachable!()
         };
         let (round, status) = (called.round, called.status);
-        match self.start(h, place, called.request, round + 1, payload) {
+        match self.start(h, admission, called.request, round + 1, payload) {
             Ok(k) => Ok(k),
             Err(unmade) => {
                 self.callers.put_callback(
@@ -137,8 +137,8 @@ impl<P, D: Device> Parts<P, D> {
                 });
             }
         };
-        let place = match self.place(h, &request) {
-            Ok(place) => place,
+        let admission = match self.admit(h, &request) {
+            Ok(admission) => admission,
             Err(why) => {
                 return Err(SubmitError {
                     why,
@@ -157,7 +157,7 @@ impl<P, D: Device> Parts<P, D> {
         let Some(called) = self.callers.remove_callback(h, n) else {
             unreachable!()
         };
-        match self.start(h, place, request, called.round + 1, payload) {
+        match self.start(h, admission, request, called.round + 1, payload) {
             Ok(k) => Ok(k),
             Err(unmade) => {
                 self.callers.put_callback(h, called);
@@ -171,12 +171,12 @@ impl<P, D: Device> Parts<P, D> {
     }
 
     /// Where the transfer of a callback is to join its line once more, or what it is refused for.
-    fn place_again(&self, h: Name, n: u64) -> Result<Place, Refused>
+    fn admit_again(&self, h: Name, n: u64) -> Result<Admission, Refused>
         requires { IsState self.now }
         ensures { IsResubmission self.now h n result }
     {
         match self.callers.callback(h, n) {
-            Some(called) => self.place(h, &called.request),
+            Some(called) => self.admit(h, &called.request),
             None => Err(Refused::NotFound),
         }
     }

@@ -5,7 +5,7 @@ ghost use Rattle.usb_model.specs.declared.step.Step.TheVariants.{Command};
 ghost use Rattle.usb_library.specs.Calls.{LacksWork, ShowsPending};
 ghost use Rattle.usb_workers.specs.Rounds.{AreCounted, Controls, DoesIf, HasEnded, Rounds, Serves};
 
-use crate::gate::{Gate, Point};
+use crate::gate::{Gate, WorkerStep};
 use crate::park::Parking;
 use crate::tries::Tries;
 use std::alloc::Global;
@@ -29,7 +29,7 @@ fn serve<L: Naming, P: Drop, D: Device, J: Recorder, G: Gate, R: Wait>(
     ensures counted { AreCounted tries.old.refused caller.old → AreCounted tries.new.refused caller.new }
 {
     if let Some((dev, ep)) = pending.serve {
-        gate.pass(rt, Point::Serve);
+        gate.pass(rt, WorkerStep::Serve);
         match library.serve_all(rt, caller, dev, ep, gate.burst()) {
             Ok(_) => tries.done(),
             Err(_) => tries.refused(rt, library),
@@ -50,7 +50,7 @@ fn command<L: Naming, P: Drop, D: Device, J: Recorder, G: Gate, R: Wait>(
     ensures counted { AreCounted tries.old.refused caller.old → AreCounted tries.new.refused caller.new }
 {
     if pending.command {
-        gate.pass(rt, Point::Command);
+        gate.pass(rt, WorkerStep::Command);
         match library.command(rt, caller) {
             Ok(_) => tries.done(),
             Err(_) => tries.refused(rt, library),

@@ -7,7 +7,7 @@ ghost use Rattle.usb_library.specs.Calls.{LacksEvents, ShowsEvents};
 ghost use Rattle.usb_workers.specs.Rounds.{AreCounted, CallsBackIf, DeliversIf, Handles, HasEnded, MayAnswer, Rounds, Takes, Tells, TellsAll};
 
 use crate::answers::answer;
-use crate::gate::{Gate, Point};
+use crate::gate::{Gate, WorkerStep};
 use crate::park::Parking;
 use crate::tries::Tries;
 use std::alloc::Global;
@@ -31,7 +31,7 @@ fn deliver<L: Naming, C: Callback, D: Device, J: Recorder, G: Gate, R: Wait>(
     ensures counted { AreCounted tries.old.refused caller.old → AreCounted tries.new.refused caller.new }
 {
     if events.deliver {
-        gate.pass(rt, Point::Deliver);
+        gate.pass(rt, WorkerStep::Deliver);
         match library.deliver_all(rt, caller, gate.burst().max(1)) {
             Ok(_) => tries.done(),
             Err(_) => tries.refused(rt, library),
@@ -76,9 +76,9 @@ fn call_back<L: Naming, C: Callback, D: Device, J: Recorder, G: Gate, R: Wait>(
         payload: callback,
     } = taken;
     let (h, n) = (returned.h, returned.n);
-    gate.pass(rt, Point::Call);
+    gate.pass(rt, WorkerStep::Call);
     let (verdict, callback) = callback.call(returned);
-    gate.pass(rt, Point::Answer);
+    gate.pass(rt, WorkerStep::Answer);
     answer(rt, library, caller, tries, h, n, verdict, callback);
 }
 
@@ -118,7 +118,7 @@ fn take_and_call<L: Naming, C: Callback, D: Device, J: Recorder, G: Gate, R: Wai
     if !events.take {
         return;
     }
-    gate.pass(rt, Point::Take);
+    gate.pass(rt, WorkerStep::Take);
     take(rt, library, caller, tries, gate.burst().max(1), taken);
     call_all(rt, library, gate, caller, tries, taken);
 }

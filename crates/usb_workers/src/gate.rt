@@ -6,7 +6,7 @@ use std::sync::Wait;
 
 /// What a worker is about to do.
 #[derive(Clone, Copy, PartialEq, Eq, Debug)]
-pub enum Point {
+pub enum WorkerStep {
     /// A device answers packets in a row.
     Serve,
     /// The controller carries out an order.
@@ -28,7 +28,7 @@ pub const BURST: u32 = 64;
 /// sake has `Open`. No lock of the library is held when a gate is asked.
 pub trait Gate {
     /// Comes back when the worker may do this.
-    fn pass<R: Wait>(&mut self, rt: &R, at: Point);
+    fn pass<R: Wait>(&mut self, rt: &R, at: WorkerStep);
 
     /// How many steps the worker may make behind one pass. One it makes in any case.
     fn burst(&self) -> u32;
@@ -39,7 +39,7 @@ pub trait Gate {
 pub struct Open;
 
 impl Gate for Open {
-    fn pass<R: Wait>(&mut self, _rt: &R, _at: Point) {}
+    fn pass<R: Wait>(&mut self, _rt: &R, _at: WorkerStep) {}
 
     fn burst(&self) -> u32
         ensures { result ≡ BURST }

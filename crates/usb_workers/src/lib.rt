@@ -85,7 +85,7 @@ pub use calls::{handle_of, make};
 pub use controller::controller_loop;
 pub use driver::Driver;
 pub use event::event_loop;
-pub use gate::{BURST, Gate, Open, Point};
+pub use gate::{BURST, Gate, Open, WorkerStep};
 pub use gates::Gates;
 pub use life::{Lived, live, live_gated};
 pub use moments::Moments;

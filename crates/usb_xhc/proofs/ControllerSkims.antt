@@ -10,8 +10,8 @@ use Rattle.usb_model.specs.Setup.{endpoint_id}
 use Rattle.usb_rings.specs.Ring.{Ring}
 use Rattle.usb_model.specs.Packets.{Packet}
 use Rattle.usb_device.specs.Pipe.{answer_of, pipe_at}
-use Rattle.usb_xhc.specs.declared.packet.Packet.{Packet as Told}
-use Rattle.usb_xhc.specs.declared.packet.Packet.TheVariants.{Moved}
+use Rattle.usb_xhc.specs.declared.packet.PacketResult.{PacketResult as Told}
+use Rattle.usb_xhc.specs.declared.packet.PacketResult.TheVariants.{Moved}
 use Rattle.usb_xhc.specs.declared.trb_at.TrbAt.{TrbAt}
 use Rattle.usb_xhc.specs.Context.{Context, gone_on, gone_past}
 use Rattle.usb_xhc.specs.Posts.{posted_all}

@@ -4,7 +4,7 @@ use Rattle.std.specs.Prelude.{Option, if◌then◌else◌}
 use Rattle.usb_model.specs.declared.response.Response.{Response}
 use Rattle.usb_model.specs.Endpoint.Serve.{is_no_packet}
 use Rattle.usb_model.specs.Packets.{Packet, packet_by}
-use Rattle.usb_xhc.specs.declared.packet.Packet.TheVariants as told
+use Rattle.usb_xhc.specs.declared.packet.PacketResult.TheVariants as told
 use Rattle.usb_xhc.specs.Ahead.{Reaches}
 use Rattle.usb_xhc.specs.Context.{Context, trbs, stand_by, event_by, gone_on}
 use Rattle.usb_xhc.specs.Transaction.{packet_in, served_by, served, ended_by}

@@ -13,7 +13,7 @@ use Rattle.usb_model.specs.Packets.{packet_by}
 use Rattle.usb_rings.specs.Line.{Line, places, all_of, contents, moved}
 use Rattle.usb_device.specs.Pipe.{bytes_after, is_ack, packet_of}
 use Rattle.usb_device.specs.Skims.{is_whole}
-use Rattle.usb_xhc.specs.declared.packet.Packet.TheVariants as told
+use Rattle.usb_xhc.specs.declared.packet.PacketResult.TheVariants as told
 use Rattle.usb_xhc.specs.declared.trb_at.TrbAt.{TrbAt}
 use Rattle.usb_xhc.specs.Ahead.{ahead, trbs_ahead, goes_on, room}
 use Rattle.usb_xhc.specs.Context.{Context, trbs, stand_by, gone_on}

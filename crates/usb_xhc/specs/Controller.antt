@@ -6,7 +6,7 @@ use Rattle.usb_trb.specs.declared.kind.TrbKind.TheVariants.{Normal, Link, NoOp, 
 use Rattle.usb_rings.specs.Places.{index_of}
 use Rattle.usb_rings.specs.Ring.{Ring, dequeue_of, empty}
 use Rattle.usb_device.specs.Pipe.{IsLawful}
-use Rattle.usb_xhc.specs.declared.packet.Packet.{Packet as Told}
+use Rattle.usb_xhc.specs.declared.packet.PacketResult.{PacketResult as Told}
 use Rattle.usb_xhc.specs.Commands.{carried, endpoint_not_enabled_error, trb_error}
 use Rattle.usb_xhc.specs.Posts.{posted_all, posted_one}
 use Rattle.usb_xhc.specs.Slots.{DeviceSlot, changed, events_after, order_code, order_events, serving, slot_after, slot_renewed}

@@ -2,7 +2,7 @@
 use Rattle.std.specs.Prelude.{◌≡◌, ℕ, zero, suc, ◌+◌, ◌*◌, ◌<◌, true, List, [], Option, Some, None, slice_get}
 use Rattle.std.specs.Option.{option_and_then, option_map_or}
 use Rattle.usb_rings.specs.Line.{moved}
-use Rattle.usb_xhc.specs.declared.packet.Packet.TheVariants.{Moved}
+use Rattle.usb_xhc.specs.declared.packet.PacketResult.TheVariants.{Moved}
 use Rattle.usb_xhc.specs.Context.{Context}
 use Rattle.usb_xhc.specs.Transaction.{Served}
 use Rattle.usb_xhc.specs.Slots.{DeviceSlot, context_of, read_after, serving, slot_after}

@@ -9,8 +9,8 @@ use Rattle.usb_model.specs.Endpoint.Status.{halts}
 use Rattle.usb_trb.specs.declared.kind.Normal.{Normal as NormalTrb}
 use Rattle.usb_trb.specs.declared.kind.TrbKind.{TrbKind}
 use Rattle.usb_model.specs.Packets.{Packet, packet_by}
-use Rattle.usb_xhc.specs.declared.packet.Packet.{Packet as Told}
-use Rattle.usb_xhc.specs.declared.packet.Packet.TheVariants as told
+use Rattle.usb_xhc.specs.declared.packet.PacketResult.{PacketResult as Told}
+use Rattle.usb_xhc.specs.declared.packet.PacketResult.TheVariants as told
 use Rattle.usb_rings.specs.Places.{address_of}
 use Rattle.usb_rings.specs.Line.{Line, places}
 use Rattle.usb_xhc.specs.declared.trb_at.TrbAt.{TrbAt}

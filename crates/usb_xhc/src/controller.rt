@@ -12,7 +12,7 @@ ghost use Rattle.usb_xhc.specs.Feeds.{controller_fed, device_may_be_fed};
 ghost use Rattle.usb_xhc.specs.Host.{rung, with_ring, with_pushed, with_blank, without_first};
 ghost use Rattle.usb_xhc.specs.Made.{slot_for};
 ghost use Rattle.usb_xhc.specs.Posts.{posted_one};
-ghost use Rattle.usb_xhc.specs.declared.packet.Packet.TheVariants.{Moved};
+ghost use Rattle.usb_xhc.specs.declared.packet.PacketResult.TheVariants.{Moved};
 ghost use Rattle.usb_xhc.specs.Ahead.{room};
 ghost use Rattle.usb_xhc.specs.Context.{trbs};
 ghost use Rattle.usb_xhc.specs.Skims.{controller_read, controller_skimmed, size_at};
@@ -22,7 +22,7 @@ ghost use Rattle.usb_xhc.specs.Controller.{AreLawfulAll, all_renewed, slot_chang
 
 use crate::renewal::renew_slots;
 use crate::slot::DeviceSlot;
-use crate::{ENDPOINT_NOT_ENABLED_ERROR, Packet, TRB_ERROR, post};
+use crate::{ENDPOINT_NOT_ENABLED_ERROR, PacketResult, TRB_ERROR, post};
 use std::alloc::{AllocError, Global};
 use std::marker::Model;
 use usb_descriptors::Config;
@@ -103,7 +103,12 @@ impl<D: Device> Controller<D> {
 
     /// One packet of the transfer at an endpoint's dequeue, from the device, whose bytes join these; None where there is
     /// nothing to serve: no such device or endpoint, or it isn't running, or no transfer is left.
-    pub fn serve_in(&mut self, dev: DeviceNo, ep: EpAddr, bytes: &mut Buffer) -> Option<Packet>
+    pub fn serve_in(
+        &mut self,
+        dev: DeviceNo,
+        ep: EpAddr,
+        bytes: &mut Buffer,
+    ) -> Option<PacketResult>
         requires bytes { IfSome (slice_get self.old.slots dev) (λ s. IfSome (context_of s ep) (λ c. IfSome (working c) (λ _. length bytes.old.items + packet_room c ≤ bytes.old.capacity))) }
         requires room { length self.old.events.waits < 4095 }
         ensures packet { result ≡ told_at self.old dev ep }
@@ -120,7 +125,7 @@ impl<D: Device> Controller<D> {
 
     /// One packet of the transfer at an endpoint's dequeue, to the device, of these bytes of the transfer; None as for
     /// `serve_in`.
-    pub fn serve_out(&mut self, dev: DeviceNo, ep: EpAddr, bytes: &[u8]) -> Option<Packet>
+    pub fn serve_out(&mut self, dev: DeviceNo, ep: EpAddr, bytes: &[u8]) -> Option<PacketResult>
         requires size { IfSome (slice_get self.old.slots dev) (λ s. IfSome (context_of s ep) (λ c. IfSome (working c) (λ _. c.size ≤ (pipe_at s.pipes ep).size))) }
         requires bytes { IfSome (slice_get self.old.slots dev) (λ s. IfSome (context_of s ep) (λ c. IfSome (working c) (λ f. offset_by f.trb c.within + packet_room c ≤ length bytes.now))) }
         requires room { length self.old.events.waits < 4095 }

@@ -18,7 +18,7 @@
 //!   dequeue: the transfer's first TRB, how far its bytes reach, where it stands some bytes on, how many whole packets
 //!   its TRB has left. The host's: push, blank, drop_front, renew, ring_doorbell
 //! - `transaction.rt`, `outcome.rt`, `packet.rt`: a packet: the bytes that it may have, what the device's act did, the
-//!   event where the transfer ended; `Packet`, what is told
+//!   event where the transfer ended; `PacketResult`, what is told
 //! - `commands.rt`: Stop Endpoint with its pause, Reset Endpoint, Set TR Dequeue Pointer, and their codes
 //! - `trb_at.rt`: a Normal TRB and its address
 //! - specs/ Controller, Slots, Made: the whole; a device's slot; how it is made
@@ -87,7 +87,7 @@ pub use commands::{CONTEXT_STATE_ERROR, ENDPOINT_NOT_ENABLED_ERROR, TRB_ERROR};
 pub use context::EndpointContext;
 pub use controller::Controller;
 pub use outcome::Reach;
-pub use packet::Packet;
+pub use packet::PacketResult;
 pub use slot::DeviceSlot;
 pub use transaction::post;
 pub use trb_at::TrbAt;

@@ -22,24 +22,24 @@ pub struct Reach {
 
 /// What a packet did: how many bytes it moved, and the code with which it ended the transfer.
 #[derive(Clone, Copy, PartialEq, Eq, Debug)]
-pub(crate) struct Outcome {
+pub(crate) struct PacketOutcome {
     pub(crate) bytes: u32,
     pub(crate) code: Option<u8>,
 }
 
-impl Outcome {
+impl PacketOutcome {
     /// So many bytes moved, and the transfer goes on.
-    fn moved(bytes: u32) -> Outcome
+    fn moved(bytes: u32) -> PacketOutcome
         ensures { result ≡ record { bytes = bytes; code = None } }
     {
-        Outcome { bytes, code: None }
+        PacketOutcome { bytes, code: None }
     }
 
     /// So many bytes moved, and the transfer ended.
-    fn ended(bytes: u32, code: u8) -> Outcome
+    fn ended(bytes: u32, code: u8) -> PacketOutcome
         ensures { result ≡ record { bytes = bytes; code = Some code } }
     {
-        Outcome {
+        PacketOutcome {
             bytes,
             code: Some(code),
         }
@@ -47,7 +47,7 @@ impl Outcome {
 }
 
 /// What a device's act did, where a packet has so many bytes.
-pub(crate) fn decide(size: u32, reach: Reach, act: Act) -> Outcome
+pub(crate) fn decide(size: u32, reach: Reach, act: Act) -> PacketOutcome
     ensures bytes { (a : Response) → act ≡ act_of a → result.bytes ≡ (packet_by size reach.room reach.extra a).bytes }
     ensures most { result.bytes ≤ min size reach.room }
     ensures code { (a : Response) → act ≡ act_of a → result.code ≡ (packet_by size reach.room reach.extra a).code }
@@ -55,39 +55,39 @@ pub(crate) fn decide(size: u32, reach: Reach, act: Act) -> Outcome
     match act {
         Act::Data(count) => received(size, reach.room, count),
         Act::Ack => sent(size, reach),
-        Act::Nak => Outcome::moved(0),
-        Act::Stall => Outcome::ended(0, STALL_ERROR),
-        Act::Broken => Outcome::ended(0, TRANSACTION_ERROR),
+        Act::Nak => PacketOutcome::moved(0),
+        Act::Stall => PacketOutcome::ended(0, STALL_ERROR),
+        Act::Broken => PacketOutcome::ended(0, TRANSACTION_ERROR),
     }
 }
 
 /// What a packet of so many bytes for the host did.
-fn received(size: u32, room: u32, count: u32) -> Outcome
+fn received(size: u32, room: u32, count: u32) -> PacketOutcome
     ensures bytes { (b : List ℕ) → count ≡ length b → result.bytes ≡ (packet_by size room false (Data b)).bytes }
     ensures most { result.bytes ≤ min size room }
     ensures code { (b : List ℕ) → count ≡ length b → result.code ≡ (packet_by size room false (Data b)).code }
 {
     if count > size.min(room) {
-        Outcome::ended(0, BABBLE_DETECTED)
+        PacketOutcome::ended(0, BABBLE_DETECTED)
     } else if count == room {
-        Outcome::ended(count, SUCCESS)
+        PacketOutcome::ended(count, SUCCESS)
     } else if count < size {
-        Outcome::ended(count, SHORT_PACKET)
+        PacketOutcome::ended(count, SHORT_PACKET)
     } else {
-        Outcome::moved(count)
+        PacketOutcome::moved(count)
     }
 }
 
 /// What the packet that the device took did.
-fn sent(size: u32, reach: Reach) -> Outcome
+fn sent(size: u32, reach: Reach) -> PacketOutcome
     ensures bytes { result.bytes ≡ (packet_by size reach.room reach.extra Ack).bytes }
     ensures most { result.bytes ≤ min size reach.room }
     ensures code { result.code ≡ (packet_by size reach.room reach.extra Ack).code }
 {
     let bytes = size.min(reach.room);
     if size < reach.room || (reach.extra && reach.room > 0) {
-        Outcome::moved(bytes)
+        PacketOutcome::moved(bytes)
     } else {
-        Outcome::ended(bytes, SUCCESS)
+        PacketOutcome::ended(bytes, SUCCESS)
     }
 }

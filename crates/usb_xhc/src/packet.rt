@@ -2,7 +2,7 @@
 
 /// What a packet did to the transfer where an endpoint stands.
 #[derive(Clone, Copy, PartialEq, Eq, Debug)]
-pub enum Packet {
+pub enum PacketResult {
     /// The device wasn't ready.
     Nak,
     /// So many bytes moved, and the transfer goes on.

@@ -20,7 +20,7 @@ ghost use Rattle.usb_xhc.specs.Posts.{posted_all};
 
 use crate::renewal::{renew_contexts, rewind};
 use crate::rings::make_contexts;
-use crate::{ENDPOINT_NOT_ENABLED_ERROR, EndpointContext, Packet};
+use crate::{ENDPOINT_NOT_ENABLED_ERROR, EndpointContext, PacketResult};
 use std::alloc::Global;
 use std::marker::Model;
 use usb_descriptors::Config;
@@ -73,7 +73,7 @@ impl<D: Device> DeviceSlot<D> {
         ep: EpAddr,
         bytes: &mut Buffer,
         events: &mut EventRing,
-    ) -> Option<Packet>
+    ) -> Option<PacketResult>
         requires bytes { IfSome (context_of self.old ep) (λ c. IfSome (working c) (λ _. length bytes.old.items + packet_room c ≤ bytes.old.capacity)) }
         requires room { length events.old.waits < 4095 }
         ensures packet { result ≡ option_map (λ s. s.packet) (serving self.old ep) }
@@ -97,7 +97,12 @@ impl<D: Device> DeviceSlot<D> {
 
     /// One packet of the transfer at an endpoint's dequeue, to the device, of these bytes of the transfer; None as for
     /// `serve_in`.
-    pub fn serve_out(&mut self, ep: EpAddr, bytes: &[u8], events: &mut EventRing) -> Option<Packet>
+    pub fn serve_out(
+        &mut self,
+        ep: EpAddr,
+        bytes: &[u8],
+        events: &mut EventRing,
+    ) -> Option<PacketResult>
         requires size { IfSome (context_of self.old ep) (λ c. IfSome (working c) (λ _. c.size ≤ (pipe_at self.old.pipes ep).size)) }
         requires bytes { IfSome (context_of self.old ep) (λ c. IfSome (working c) (λ f. offset_by f.trb c.within + packet_room c ≤ length bytes.now)) }
         requires room { length events.old.waits < 4095 }

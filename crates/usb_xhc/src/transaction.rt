@@ -2,7 +2,7 @@
 
 ghost use Rattle.std.specs.Prelude.{◌≡◌, ◌+◌, ◌*◌, ◌≤◌, ◌<◌, ◌∷◌, [], Some, drop, length, take, if◌then◌else◌};
 ghost use Rattle.usb_model.specs.Endpoint.Serve.{is_no_packet};
-ghost use Rattle.usb_xhc.specs.declared.packet.Packet.TheVariants.{Nak, Moved};
+ghost use Rattle.usb_xhc.specs.declared.packet.PacketResult.TheVariants.{Nak, Moved};
 ghost use Rattle.usb_model.specs.declared.response.Response.{Response};
 ghost use Rattle.usb_device.specs.Pipe.{act_of};
 ghost use Rattle.usb_xhc.specs.Ahead.{Reaches};
@@ -12,7 +12,7 @@ ghost use Rattle.usb_xhc.specs.Transaction.{trb_at, served, served_gone, ended_b
 
 use crate::context::{EndpointContext, TrbPosition};
 use crate::outcome::{Reach, decide};
-use crate::packet::Packet;
+use crate::packet::PacketResult;
 use crate::trb_at::TrbAt;
 use usb_device::Act;
 use usb_model::completion::{TRANSACTION_ERROR, halts};
@@ -21,7 +21,13 @@ use usb_trb::TrbKind;
 
 impl EndpointContext {
     /// The device met a packet of the transfer at dequeue so, whose first TRB and reach are these.
-    pub fn take(&mut self, first: &TrbAt, reach: Reach, act: Act, events: &mut EventRing) -> Packet
+    pub fn take(
+        &mut self,
+        first: &TrbAt,
+        reach: Reach,
+        act: Act,
+        events: &mut EventRing,
+    ) -> PacketResult
         requires first { trb_at self.old 0 ≡ Some first.now }
         requires reach { Reaches self.old.size (trbs self.old) self.old.within reach.room reach.extra }
         requires room { length events.old.waits < 4095 }
@@ -37,7 +43,7 @@ impl EndpointContext {
         };
         post(events, self.event(&standing, code));
         self.end(first, &standing, outcome.bytes, code);
-        Packet::Ended(code)
+        PacketResult::Ended(code)
     }
 
     /// How many bytes a packet may have.
@@ -86,7 +92,7 @@ impl EndpointContext {
 
     /// The device is gone: the transfer at dequeue, whose first TRB is this, ends with USB Transaction Error.
     #[tactic(auto, unfolding(crate::specs::Transaction::served_gone))]
-    pub fn fail(&mut self, first: &TrbAt, events: &mut EventRing) -> Packet
+    pub fn fail(&mut self, first: &TrbAt, events: &mut EventRing) -> PacketResult
         requires first { trb_at self.old 0 ≡ Some first.now }
         requires room { length events.old.waits < 4095 }
         ensures packet { result ≡ (served_gone self.old).packet }
@@ -96,17 +102,17 @@ impl EndpointContext {
         let standing = self.standing(first, 0);
         post(events, self.event(&standing, TRANSACTION_ERROR));
         self.halt();
-        Packet::Ended(TRANSACTION_ERROR)
+        PacketResult::Ended(TRANSACTION_ERROR)
     }
 }
 
 /// What is told of an act that didn't end the transfer.
-fn moved(act: Act, bytes: u32) -> Packet
+fn moved(act: Act, bytes: u32) -> PacketResult
     ensures { (a : Response) → act ≡ act_of a → result ≡ (if is_no_packet (a ∷ []) then Nak else Moved bytes) }
 {
     match act {
-        Act::Nak => Packet::Nak,
-        _ => Packet::Moved(bytes),
+        Act::Nak => PacketResult::Nak,
+        _ => PacketResult::Moved(bytes),
     }
 }
 

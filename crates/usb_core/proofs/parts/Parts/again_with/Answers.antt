@@ -36,20 +36,20 @@ overflow_add-called g c =
     let old : State g.row.P.Denot = parts c.self.inside.claims c.self.inside.controller c.self.inside.flights c.self.inside.callers c.self.inside.outstanding in
     let is : IsState old = subst (λ (s : State g.row.P.Denot). IsState s) (sym c.self.view_is) c.requires in
     let found : callback_at old.callers c.args.h c.args.n ≡ Some c.in-Some-remove_callback.called = sym (c.reserve_callback.ensures.callbacks c.args.h c.args.n) ∙ sym c.remove_callback.ensures.value ∙ c.in-Some-remove_callback.is in
-    let admits : AdmitsIt old c.args.h c.with_bytes-request.result c.in-Ok.place = subst (λ (s : State g.row.P.Denot). AdmitsIt s c.args.h c.with_bytes-request.result c.in-Ok.place) (sym c.self.view_is) c.in-Ok.ensures in
-    let can : CanStart old c.args.h c.in-Ok.place.dev c.with_bytes-request.result c.in-Ok.place.tds = (admits is.0 is.1 is.2.0 is.2.1 is.2.2).can in
+    let admits : AdmitsIt old c.args.h c.with_bytes-request.result c.in-Ok.admission = subst (λ (s : State g.row.P.Denot). AdmitsIt s c.args.h c.with_bytes-request.result c.in-Ok.admission) (sym c.self.view_is) c.in-Ok.ensures in
+    let can : CanStart old c.args.h c.in-Ok.admission.dev c.with_bytes-request.result c.in-Ok.admission.tds = (admits is.0 is.1 is.2.0 is.2.1 is.2.2).can in
     omega (arith, round_fits old c.args.h c.args.n c.in-Some-remove_callback.called is found can.number)
 
 pub start-requires : goal.start-requires
 start-requires g c =
     let old : State g.row.P.Denot = parts c.self.inside.claims c.self.inside.controller c.self.inside.flights c.self.inside.callers c.self.inside.outstanding in
     let is : IsState old = subst (λ (s : State g.row.P.Denot). IsState s) (sym c.self.view_is) c.requires in
-    let admits : AdmitsIt old c.args.h c.with_bytes-request.result c.in-Ok.place = subst (λ (s : State g.row.P.Denot). AdmitsIt s c.args.h c.with_bytes-request.result c.in-Ok.place) (sym c.self.view_is) c.in-Ok.ensures in
-    let can : CanStart old c.args.h c.in-Ok.place.dev c.with_bytes-request.result c.in-Ok.place.tds = (admits is.0 is.1 is.2.0 is.2.1 is.2.2).can in
+    let admits : AdmitsIt old c.args.h c.with_bytes-request.result c.in-Ok.admission = subst (λ (s : State g.row.P.Denot). AdmitsIt s c.args.h c.with_bytes-request.result c.in-Ok.admission) (sym c.self.view_is) c.in-Ok.ensures in
+    let can : CanStart old c.args.h c.in-Ok.admission.dev c.with_bytes-request.result c.in-Ok.admission.tds = (admits is.0 is.1 is.2.0 is.2.1 is.2.2).can in
     let ended : Ended old.callers c.remove_callback.new.self c.args.h c.args.n = ended_by old.callers c.reserve_callback.new.self c.remove_callback.new.self c.args.h c.args.n c.remove_callback.result
     c.reserve_callback.ensures.numbers c.reserve_callback.ensures.callbacks c.reserve_callback.ensures.results c.reserve_callback.ensures.counts
     c.remove_callback.ensures.value c.remove_callback.ensures.callbacks c.remove_callback.ensures.counts c.remove_callback.ensures.numbers c.remove_callback.ensures.results in
-    can_again old c.remove_callback.new.self c.args.h c.in-Ok.place.dev c.args.n c.with_bytes-request.result c.in-Ok.place.tds ended can
+    can_again old c.remove_callback.new.self c.args.h c.in-Ok.admission.dev c.args.n c.with_bytes-request.result c.in-Ok.admission.tds ended can
 
 pub put_callback-requires-clause-absent : goal.put_callback-requires-clause-absent
 put_callback-requires-clause-absent g c =
@@ -69,14 +69,14 @@ pub returns-in-Ok-start-clause-accepted : goal.returns-in-Ok-start-clause-accept
 returns-in-Ok-start-clause-accepted g c =
     let old : State g.row.P.Denot = parts c.self.inside.claims c.self.inside.controller c.self.inside.flights c.self.inside.callers c.self.inside.outstanding in
     let found : callback_at old.callers c.args.h c.args.n ≡ Some c.in-Some-remove_callback.called = sym (c.reserve_callback.ensures.callbacks c.args.h c.args.n) ∙ sym c.remove_callback.ensures.value ∙ c.in-Some-remove_callback.is in
-    let admits : AdmitsIt old c.args.h c.with_bytes-request.result c.in-Ok.place = subst (λ (s : State g.row.P.Denot). AdmitsIt s c.args.h c.with_bytes-request.result c.in-Ok.place) (sym c.self.view_is) c.in-Ok.ensures in
+    let admits : AdmitsIt old c.args.h c.with_bytes-request.result c.in-Ok.admission = subst (λ (s : State g.row.P.Denot). AdmitsIt s c.args.h c.with_bytes-request.result c.in-Ok.admission) (sym c.self.view_is) c.in-Ok.ensures in
     let ended : Ended old.callers c.remove_callback.new.self c.args.h c.args.n = ended_by old.callers c.reserve_callback.new.self c.remove_callback.new.self c.args.h c.args.n c.remove_callback.result
     c.reserve_callback.ensures.numbers c.reserve_callback.ensures.callbacks c.reserve_callback.ensures.results c.reserve_callback.ensures.counts
     c.remove_callback.ensures.value c.remove_callback.ensures.callbacks c.remove_callback.ensures.counts c.remove_callback.ensures.numbers c.remove_callback.ensures.results in
     let made : again_of (AgainWith c.args.bytes) c.in-Some-remove_callback.called ≡ Some c.with_bytes-request.result =
     ap (option_map (λ (x : InCallback). record x.request { body = Out c.args.bytes })) (sym found ∙ sym c.callback.ensures ∙ ap option_copied c.in-Some.is) ∙ ap (λ (r : Request). Some r) (sym c.with_bytes-request.ensures) in
     subst (λ (s : State g.row.P.Denot). DoesCoreStep s (Answer c.args.h c.args.n (AgainWith c.args.bytes)) (says c.args.h (Number c.in-Ok-start.k)) c.start.new.self) c.self.view_is
-    (again_joins old c.start.new.self c.remove_callback.new.self c.args.h c.in-Ok.place.dev c.args.n c.in-Ok-start.k (AgainWith c.args.bytes) c.in-Some-remove_callback.called c.with_bytes-request.result c.in-Ok.place.tds found made ended admits c.in-Ok-start.ensures.started c.in-Ok-start.ensures.number)
+    (again_joins old c.start.new.self c.remove_callback.new.self c.args.h c.in-Ok.admission.dev c.args.n c.in-Ok-start.k (AgainWith c.args.bytes) c.in-Some-remove_callback.called c.with_bytes-request.result c.in-Ok.admission.tds found made ended admits c.in-Ok-start.ensures.started c.in-Ok-start.ensures.number)
 
 pub returns-in-Err-start-clause-kept : goal.returns-in-Err-start-clause-kept
 returns-in-Err-start-clause-kept g c =

@@ -22,7 +22,7 @@ pub returns-clause-started : goal.returns-clause-started
 returns-clause-started g c =
     let old : State g.row.P.Denot = parts c.self.inside.claims c.self.inside.controller c.self.inside.flights c.self.inside.callers c.self.inside.outstanding in
     let new : State g.row.P.Denot = record old { controller = c.push-2.new.self; flights = c.push.new.self; callers = c.count_up.new.self } in
-    let can : CanStart old c.args.h c.args.place.dev c.args.request c.args.place.tds = subst (λ (s : State g.row.P.Denot). CanStart s c.args.h c.args.place.dev c.args.request c.args.place.tds) (sym c.self.view_is) c.requires in
+    let can : CanStart old c.args.h c.args.admission.dev c.args.request c.args.admission.tds = subst (λ (s : State g.row.P.Denot). CanStart s c.args.h c.args.admission.dev c.args.request c.args.admission.tds) (sym c.self.view_is) c.requires in
     let made = c.in_ok-transfer.ensures.made in
     let is : IsUnstarted c.args.h c.in_ok-transfer.transfer (number_of old.callers c.args.h) c.args.request c.args.round = record {
       number = ap (λ (t : InFlight g.row.P.Denot). t.n) made ∙ c.next_number-n.ensures;
@@ -35,10 +35,10 @@ returns-clause-started g c =
       whose = ap (λ (t : InFlight g.row.P.Denot). t.name) made;
     } in
     let trbs = c.as_slice.ensures.value ∙ c.trbs-trbs.ensures.value ∙ ap (normals_of c.in-Ok.key) can.split in
-    subst (λ (s : State g.row.P.Denot). Starts s new c.args.h c.args.place.dev c.args.request.ep c.args.request c.args.round) c.self.view_is
-    (starts old c.push-2.new.self c.push.new.self c.count_up.new.self c.args.h c.args.place.dev c.args.request.ep can.context c.in_ok-transfer.transfer c.in-Ok.key c.args.request c.args.round can.there can.fits refl is
+    subst (λ (s : State g.row.P.Denot). Starts s new c.args.h c.args.admission.dev c.args.request.ep c.args.request c.args.round) c.self.view_is
+    (starts old c.push-2.new.self c.push.new.self c.count_up.new.self c.args.h c.args.admission.dev c.args.request.ep can.context c.in_ok-transfer.transfer c.in-Ok.key c.args.request c.args.round can.there can.fits refl is
     c.in-Ok.ensures.lines c.in-Ok.ensures.keys c.in-Ok.ensures.ended
-    (c.push-2.ensures ∙ ap (λ (l : List NormalTrb). slot_changed old.controller c.args.place.dev (λ s. changed s (endpoint_id c.args.request.ep) (λ v. with_ring v (with_pushed v.ring (normals l))))) trbs)
+    (c.push-2.ensures ∙ ap (λ (l : List NormalTrb). slot_changed old.controller c.args.admission.dev (λ s. changed s (endpoint_id c.args.request.ep) (λ v. with_ring v (with_pushed v.ring (normals l))))) trbs)
     c.count_up.ensures.numbers c.count_up.ensures.callbacks c.count_up.ensures.results c.count_up.ensures.counts)
 
 pub returns-clause-carries : goal.returns-clause-carries
@@ -48,5 +48,5 @@ returns-clause-carries g c =
     let made = c.in_ok-transfer.ensures.made in
     subst (λ (s : State g.row.P.Denot). CarriesMore c.args.h c.next_number-n.result c.args.payload s new) c.self.view_is
     (subst₂ (λ n p. CarriesMore c.args.h n p old new) (sym c.next_number-n.ensures) (ap (λ (t : InFlight g.row.P.Denot). t.payload) made)
-    (joins_carried old new c.args.h c.args.place.dev c.args.request.ep c.in_ok-transfer.transfer (ap (λ (t : InFlight g.row.P.Denot). t.name) made) (ap (λ (t : InFlight g.row.P.Denot). t.n) made ∙ c.next_number-n.ensures)
+    (joins_carried old new c.args.h c.args.admission.dev c.args.request.ep c.in_ok-transfer.transfer (ap (λ (t : InFlight g.row.P.Denot). t.name) made) (ap (λ (t : InFlight g.row.P.Denot). t.n) made ∙ c.next_number-n.ensures)
     c.in-Ok.ensures.lines c.in-Ok.ensures.ended c.count_up.ensures.numbers))

@@ -12,9 +12,9 @@ use Rattle.usb_tables.specs.Refusal.{checked}
 use Rattle.refine_core.specs.State.{State}
 use Rattle.refine_core.specs.Works.{IsHolder}
 use Rattle.refine_core.proofs.Joins.{IsHere, IsMine, is_mine, join_closed, join_full, join_gone, join_last, join_nowhere, join_others, join_refused, joins_there}
-use Rattle.usb_core.specs.Submissions.{PlaceIs}
-use Rattle.usb_core.specs.declared.submission.Place.{Place}
-use Rattle.usb_core.proofs.parts.Parts.place.Goals as goal
+use Rattle.usb_core.specs.Submissions.{IsAdmission}
+use Rattle.usb_core.specs.declared.submission.Admission.{Admission}
+use Rattle.usb_core.proofs.parts.Parts.admit.Goals as goal
 
 pub returns-in_default : goal.returns-in_default
 returns-in_default g c = λ setup w core keeps shows.
@@ -50,7 +50,7 @@ returns-in_err-tds g c = λ setup w core keeps shows.
     let mine : IsMine setup c.args.self.now core c.args.h c.in-Some.dev c.args.request.now.ep = is_mine setup c.args.self.now core c.args.h c.in-Some.dev c.args.request.now.ep c.holder.result keeps opened holds (sym c.is_its.ensures ∙ c.if-not-is_its.false) in
     let is : IsHere setup c.args.self.now core c.args.h c.in-Some.dev c.args.request.now.ep c.in-Some-config.config.now = record { mine = mine; here = sym c.is_gone.ensures ∙ c.if-is_gone.false; known = (ap (λ (s : State g.row.P.Denot). slice_get s.claims.configs c.in-Some.dev) (sym c.self.view_is) ∙ sym c.config.ensures ∙ ap option_copied c.in-Some-config.is) } in
     let error = err_from_is_err_and c.from_residual.result c.from_residual.ensures.1 in
-    subst (λ (r : Result Place Refused). PlaceIs setup c.args.self.now core c.args.h c.args.request.now r) (sym (error.1 ∙ ap (λ (e : Refused). Err e) error.2))
+    subst (λ (r : Result Admission Refused). IsAdmission setup c.args.self.now core c.args.h c.args.request.now r) (sym (error.1 ∙ ap (λ (e : Refused). Err e) error.2))
     (join_refused setup c.args.self.now core c.args.h c.in-Some.dev c.args.request.now c.in-Some-config.config.now c.in_err-tds.field-0.0 is (sym c.in_err-tds.was ∙ c.check.ensures))
 
 pub returns-then-free-len : goal.returns-then-free-len
