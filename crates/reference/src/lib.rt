@@ -9,7 +9,7 @@
 //!
 //! - `share.rt`, `packet.rt`, `outcome.rt`: the answers that a transfer took; an OUT transfer's bytes in packets;
 //!   what the share did
-//! - `status.rt`, `result.rt`: what a callback is told, and given
+//! - `result.rt`: what a callback is given
 //! - `line.rt`: which transfer of the line is meant, and what is left behind it
 //! - `device.rt`: `serve`: a device answers one packet
 //! - `moved.rt`, specs/Moved: the packets that move then

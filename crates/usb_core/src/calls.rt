@@ -15,7 +15,8 @@ ghost use Rattle.refine_core.specs.Steps.{TurnsWorld};
 ghost use Rattle.usb_core.specs.Calls.{takes_memory};
 ghost use Rattle.usb_core.specs.Results.{CarriesOut};
 
-use crate::{Parts, Setup, SubmitError, Taken};
+use crate::parts::Parts;
+use crate::{Setup, SubmitError, Taken};
 use std::alloc::{AllocError, Global};
 use std::marker::Model;
 use usb_device::Device;

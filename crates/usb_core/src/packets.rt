@@ -78,13 +78,13 @@ fn serve_item<P, D: Device>(
 {
     let transfer = flights.get_mut(dev, ep, item)?;
     let n = transfer.n;
-    let packet = serve(transfer, dev, ep, controller)?;
+    let packet = exchange(transfer, dev, ep, controller)?;
     Some((n, packet))
 }
 
 /// One packet of this transfer at the controller, which borrows the transfer's bytes: IN reads, OUT sends. None where there
 /// is nothing to serve.
-fn serve<P, D: Device>(
+fn exchange<P, D: Device>(
     transfer: &mut Transfer<P>,
     dev: DeviceNo,
     ep: EpAddr,

@@ -68,24 +68,6 @@ impl Journal {
         self.shorts.is_empty()
     }
 
-    /// A copy of the place with this number, from 0 on; None where there is none. An error where memory is wanting.
-    pub fn place(&self, alloc: Global, number: usize) -> Result<Option<Place>, AllocError>
-        ensures { IfOk result (λ place. place ≡ slice_get self.now.places number) }
-    {
-        if number < self.shorts.len() {
-            let short = self.shorts[number];
-            let place = reader::place_in(
-                alloc,
-                &short,
-                self.rests.as_slice(),
-                self.longs.as_slice(),
-                self.bytes.as_slice(),
-            )?;
-            return Ok(Some(place));
-        }
-        Ok(None)
-    }
-
     /// Copies of all places, in order. An error where memory is wanting.
     pub fn places(&self, alloc: Global) -> Result<Vec<Place>, AllocError>
         ensures { IfOk result (λ places. places.items ≡ self.now.places) }

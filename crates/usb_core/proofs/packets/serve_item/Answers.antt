@@ -6,10 +6,10 @@ pub returns-in_err-packet-clause-transfer : goal.returns-in_err-packet-clause-tr
 returns-in_err-packet-clause-transfer g c = λ t there.
     let both : Some c.in_ok-transfer.transfer.now ≡ Some t = c.in_ok-transfer.ensures.value ∙ there in
     let same : c.in_ok-transfer.transfer.now ≡ t = cc in
-    rw (← same) (record { served = c.serve.new.transfer; behind = c.serve.ensures.transfer; put = refl })
+    rw (← same) (record { served = c.exchange.new.transfer; behind = c.exchange.ensures.transfer; put = refl })
 
 pub returns-clause-transfer : goal.returns-clause-transfer
 returns-clause-transfer g c = λ t there.
     let both : Some c.in_ok-transfer.transfer.now ≡ Some t = c.in_ok-transfer.ensures.value ∙ there in
     let same : c.in_ok-transfer.transfer.now ≡ t = cc in
-    rw (← same) (record { served = c.serve.new.transfer; behind = c.serve.ensures.transfer; put = refl })
+    rw (← same) (record { served = c.exchange.new.transfer; behind = c.exchange.ensures.transfer; put = refl })

@@ -1,6 +1,6 @@
 -- The bytes read join for IN; OUT changes nothing.
 use Rattle.std.proofs.Common.{refl, arith}
-use Rattle.usb_core.proofs.packets.serve.Goals as goal
+use Rattle.usb_core.proofs.packets.exchange.Goals as goal
 
 pub returns-in-In-clause-transfer : goal.returns-in-In-clause-transfer
 returns-in-In-clause-transfer g c = record { rest = refl; items = rw c.in-In.is c.serve_in.ensures.bytes; room = c.serve_in.ensures.capacity; lent = c.serve_in.ensures.lent }
