@@ -1,14 +1,19 @@
-//! Scenes of the low crates: TRBs, descriptors, devices, events, callbacks, the log and captures. A line says what each
-//! scene saw; a scene that isn't as it has to be ends the program with an error.
+//! Scenes of the low crates: TRBs, descriptors, devices, events, callbacks, the log and captures; and of the core, in which the bytes of
+//! its rings have to be those of the standard. A line says what each scene saw; a scene that isn't as it has to be ends the program with
+//! an error.
 //!
 //! # Files
 //!
 //! - `trbs.rt`, `configurations.rt`, `faults.rt`, `devices.rt`, `events.rt`, `callbacks.rt`, `log.rt`, `captures.rt`:
 //!   the scenes
+//! - `bytes.rt`, with its folder: the core's rings, byte by byte: short transfers and errands (`short.rt`), transfers over several TRBs
+//!   (`long.rt`); how a scene is played (`scene.rt`), and whether what is found fits a line (`pattern.rt`); the core with what can be asked
+//!   of its rings (`host.rt`), what was found, in words (`found.rt`), and the device (`device.rt`)
 //! - `relay.rt`, `changed.rt`: a device that hands its calls on; a configuration with a byte changed
 //! - `expect.rt`: an error that says what isn't as it has to be
 #![tactic(auto)]
 
+mod bytes;
 mod callbacks;
 mod captures;
 mod changed;
@@ -32,5 +37,6 @@ fn main(rt: HostRuntime) -> Result<()> {
     events::play(&rt)?;
     callbacks::play(&rt, alloc)?;
     log::play(&rt, alloc)?;
-    captures::play(&rt, alloc)
+    captures::play(&rt, alloc)?;
+    bytes::play(&rt)
 }

@@ -1,8 +1,8 @@
 //! Scenes of long transfers: a TRB for each 65,536 bytes.
 
-use crate::device::{Answer, Answers};
-use crate::scene::{Block, Scene};
-use crate::short::{HOLD, SHORT_READ};
+use crate::bytes::device::{Answer, Answers};
+use crate::bytes::scene::{Block, Scene};
+use crate::bytes::short::{HOLD, SHORT_READ};
 
 /// All of them.
 pub const SCENES: &[Scene] = &[

@@ -1,8 +1,8 @@
 //! A scene, and how it is played.
 
-use crate::device::Answers;
-use crate::host::Host;
-use crate::pattern::{fits, numbered};
+use crate::bytes::device::Answers;
+use crate::bytes::host::Host;
+use crate::bytes::pattern::{fits, numbered};
 use anyhow::{Result, anyhow};
 use std::alloc::Global;
 

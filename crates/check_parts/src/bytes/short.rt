@@ -1,7 +1,7 @@
 //! Scenes of short transfers: one TRB each, and how rings turn.
 
-use crate::device::{Answer, Answers};
-use crate::scene::{Block, Scene};
+use crate::bytes::device::{Answer, Answers};
+use crate::bytes::scene::{Block, Scene};
 
 /// All of them.
 pub const SCENES: &[Scene] = &[

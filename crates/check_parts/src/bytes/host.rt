@@ -1,7 +1,7 @@
 //! A core of one device, to which a line is told at a time.
 
-use crate::device::{Answers, setup};
-use crate::found::Found;
+use crate::bytes::device::{Answers, setup};
+use crate::bytes::found::Found;
 use anyhow::{Result, anyhow};
 use std::alloc::{AllocError, Global};
 use trace_scenario::Line;
