@@ -69,9 +69,15 @@ close_tests a q = unopened a ∷ unquiet q ∷ []
 abbrev pub claim_tests : CallerFacts → ℕ → Bool → List (Bool × Refusal) → List (Bool × Refusal)
 claim_tests a i exists behind = unopened a ∷ unplugged a ∷ (not exists, NotFound (missing.Interface (dev_of a) i)) ∷ behind
 
--- 4. release of an interface that it holds or not
-abbrev pub release_tests : CallerFacts → ℕ → Bool → QuietFacts → List (Bool × Refusal)
-release_tests a i held q = (not (is_some a.device && held), NotFound (if is_some a.device then missing.Claim i else missing.Open)) ∷ unquiet q ∷ []
+-- why it doesn't hold an interface that its device has or not
+abbrev pub unheld : Option ℕ → ℕ → Bool → Missing
+unheld None i exists = missing.Open
+unheld (Some dev) i true = missing.Claim i
+unheld (Some dev) i false = missing.Interface dev i
+
+-- 4. release of an interface that the device has or not, and the caller holds or not
+abbrev pub release_tests : CallerFacts → ℕ → (exists held : Bool) → QuietFacts → List (Bool × Refusal)
+release_tests a i exists held q = (not (is_some a.device && held), NotFound (unheld a.device i exists)) ∷ unquiet q ∷ []
 
 -- 5. reset; behind it: whoever else holds an interface
 abbrev pub reset_tests : CallerFacts → QuietFacts → List (Bool × Refusal) → List (Bool × Refusal)
@@ -112,11 +118,11 @@ is_bad ep true n = not (is_in ep) || nat_lt most_bytes n
 is_bad ep false n = is_in ep || nat_lt most_bytes n
 
 abbrev pub direction_of : ℕ → Bool → ℕ → Misfit
-direction_of ep true n = if is_in ep then misfit.Bytes n else misfit.Reads
-direction_of ep false n = if is_in ep then misfit.Writes else misfit.Bytes n
+direction_of ep true n = if is_in ep then misfit.Bytes n else misfit.Reads ep
+direction_of ep false n = if is_in ep then misfit.Writes ep else misfit.Bytes n
 
 abbrev pub misfit_of : EndpointFacts → RequestFacts → Misfit
-misfit_of s x = if is_same_kind x.kind s.kind then direction_of s.ep x.reads x.bytes else misfit.Kind s.kind x.kind
+misfit_of s x = if is_same_kind x.kind s.kind then direction_of s.ep x.reads x.bytes else misfit.Kind s.ep s.kind x.kind
 
 -- who keeps its places
 abbrev pub kept_by : EndpointFacts → Places
