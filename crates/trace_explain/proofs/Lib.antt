@@ -7,7 +7,6 @@ mod OfSorts
 mod TellsAsks
 mod TellsCalls
 mod TellsEnds
-mod TellsQuiet
 mod TellsSubmissions
 mod TellsTurns
 mod Told

@@ -34,7 +34,7 @@ use Rattle.trace_explain.proofs.TellsAsks.{ask_told}
 use Rattle.trace_explain.proofs.TellsCalls.{claim_told, close_told, open_told, release_told, reset_told, unplug_told}
 use Rattle.trace_explain.proofs.TellsEnds.{served_told}
 use Rattle.trace_explain.proofs.TellsSubmissions.{answer_told, clear_told, submit_told}
-use Rattle.trace_explain.proofs.Told.{replied}
+use Rattle.trace_explain.proofs.Told.{replied, told_sort}
 
 -- the reply to the step of a name
 of_name : (setup : Setup) (h : ℕ) (w : World) (step : Step) → (turn_of setup h w step).entry.reply ≡ replied setup h w (effect setup h (machine_of setup h w) step)
@@ -149,18 +149,18 @@ take_told setup w (x ∷ xs) e =
 
 pub sorts_agree : (setup : Setup) (w : World) (step : Step) → sort_of (reason_of setup w step) ≡ sort_of_reply (turn setup w step).entry.reply
 unfolding reason_of turn effect turn_of_nobody
-sorts_agree setup w (Open h dev) = open_told setup h w (machine_of setup h w) dev ∙ sort_of_name setup h w (Open h dev)
-sorts_agree setup w (Close h) = close_told setup h w (machine_of setup h w) ∙ sort_of_name setup h w (Close h)
-sorts_agree setup w (Claim h i) = claim_told setup h w i ∙ sort_of_name setup h w (Claim h i)
-sorts_agree setup w (Release h i) = release_told setup h w (machine_of setup h w) i ∙ sort_of_name setup h w (Release h i)
-sorts_agree setup w (Reset h) = reset_told setup h w (machine_of setup h w) ∙ sort_of_name setup h w (Reset h)
-sorts_agree setup w (ClearHalt h ep) = clear_told setup h w ep ∙ sort_of_name setup h w (ClearHalt h ep)
-sorts_agree setup w (Submit h request) = submit_told setup h w (machine_of setup h w).handle request 0 ∙ sort_of_name setup h w (Submit h request)
-sorts_agree setup w (Cancel h n) = ask_told setup h w (machine_of setup h w) n ask.Cancel false ∙ sort_of_name setup h w (Cancel h n)
-sorts_agree setup w (Expire h n) = ask_told setup h w (machine_of setup h w) n ask.Time true ∙ sort_of_name setup h w (Expire h n)
+sorts_agree setup w (Open h dev) = told_sort setup h (machine_of setup h w) _ ∙ open_told setup h w (machine_of setup h w) dev ∙ sort_of_name setup h w (Open h dev)
+sorts_agree setup w (Close h) = told_sort setup h (machine_of setup h w) _ ∙ close_told setup h w (machine_of setup h w) ∙ sort_of_name setup h w (Close h)
+sorts_agree setup w (Claim h i) = told_sort setup h (machine_of setup h w) _ ∙ claim_told setup h w i ∙ sort_of_name setup h w (Claim h i)
+sorts_agree setup w (Release h i) = told_sort setup h (machine_of setup h w) _ ∙ release_told setup h w (machine_of setup h w) i ∙ sort_of_name setup h w (Release h i)
+sorts_agree setup w (Reset h) = told_sort setup h (machine_of setup h w) _ ∙ reset_told setup h w (machine_of setup h w) ∙ sort_of_name setup h w (Reset h)
+sorts_agree setup w (ClearHalt h ep) = told_sort setup h (machine_of setup h w) _ ∙ clear_told setup h w (machine_of setup h w) ep ∙ sort_of_name setup h w (ClearHalt h ep)
+sorts_agree setup w (Submit h request) = told_sort setup h (machine_of setup h w) _ ∙ submit_told setup h w (machine_of setup h w) (machine_of setup h w).handle request 0 ∙ sort_of_name setup h w (Submit h request)
+sorts_agree setup w (Cancel h n) = told_sort setup h (machine_of setup h w) _ ∙ ask_told setup h w (machine_of setup h w) n ask.Cancel false ∙ sort_of_name setup h w (Cancel h n)
+sorts_agree setup w (Expire h n) = told_sort setup h (machine_of setup h w) _ ∙ ask_told setup h w (machine_of setup h w) n ask.Time true ∙ sort_of_name setup h w (Expire h n)
 sorts_agree setup w (Serve dev ep) = serve_told setup w dev ep
 sorts_agree setup w Command = command_told setup w w.orders refl
 sorts_agree setup w Deliver = deliver_told setup w w.news refl
 sorts_agree setup w Take = take_told setup w w.results refl
-sorts_agree setup w (Answer h n verdict) = answer_told setup h w n verdict ∙ sort_of_name setup h w (Answer h n verdict)
+sorts_agree setup w (Answer h n verdict) = told_sort setup h (machine_of setup h w) _ ∙ answer_told setup h w (machine_of setup h w) n verdict ∙ sort_of_name setup h w (Answer h n verdict)
 sorts_agree setup w (Unplug dev) = unplug_told setup w.gone dev

@@ -1,7 +1,8 @@
 -- The endpoints that a device has, as a reason names them.
-use Rattle.std.specs.Prelude.{ℕ, ◌+◌, nat_lt, List, replicate, take, slice_set, if◌then◌else◌}
+use Rattle.std.specs.Prelude.{ℕ, ◌+◌, nat_lt, List, Option, Some, None, replicate, take, slice_set, if◌then◌else◌}
 use Rattle.std.specs.List.{fold}
 use Rattle.usb_model.specs.declared.setup.EndpointInfo.{EndpointInfo}
+use Rattle.usb_model.specs.Setup.{Setup, endpoints_of}
 use Rattle.trace_explain.specs.declared.endpoints.EndpointList.{EndpointList}
 
 -- how many are named at most
@@ -23,3 +24,8 @@ listed infos = fold with_endpoint no_endpoints infos
 -- their addresses
 abbrev pub addresses_in : EndpointList → List ℕ
 addresses_in list = take list.count list.addresses
+
+-- those of the device that is open, if one is
+abbrev pub listed_of : Setup → Option ℕ → EndpointList
+listed_of setup None = no_endpoints
+listed_of setup (Some dev) = listed (endpoints_of setup dev)

@@ -14,7 +14,7 @@ use Rattle.trace_io.specs.Output.{behind_line, line_text}
 use Rattle.trace_explain.specs.Reasons.{reason_of}
 use Rattle.trace_explain.specs.Text.{reason_text}
 use Rattle.trace_explain.specs.declared.sentence.Reason.{Reason}
-use Rattle.trace_explain.specs.declared.sentence.Reason.TheVariants.{Refused}
+use Rattle.trace_explain.specs.declared.sentence.Reason.TheVariants.{Refused, UnplugRefused}
 use Rattle.trace_explain.specs.Packets.{packet_lines}
 use Rattle.trace_explain.specs.declared.telling.Telling.{Telling}
 use Rattle.trace_explain.specs.declared.telling.Telling.TheVariants.{Reasons, Refusals, Packets, StepPackets}
@@ -53,6 +53,7 @@ explained_entries telling line note (entry ∷ entries) = told_entry telling lin
 -- whether a reason is that of a refusal
 abbrev pub is_refusal : Option Reason → Bool
 is_refusal (Some (Refused refusal)) = true
+is_refusal (Some (UnplugRefused refusal)) = true
 is_refusal reason = false
 
 -- whether a piece is told whose first step has this reason: each, or those alone that are refused

@@ -1,4 +1,3 @@
-pub mod First
 pub mod Endpoints
 pub mod Text
 pub mod Caller

@@ -1,6 +1,7 @@
 -- The sort of a reply, and of the reason that is told for it.
 use Rattle.std.specs.Prelude.{ℕ, Bool, true, false, Option, Some, None}
 use Rattle.usb_model.specs.declared.refused.Refused.{Refused}
+use Rattle.usb_model.specs.declared.refused.Refused.TheVariants as refused
 use Rattle.usb_model.specs.declared.reply.Reply.{Reply}
 use Rattle.usb_model.specs.declared.reply.Reply.TheVariants as reply
 use Rattle.usb_model.specs.declared.status.Status.{Status}
@@ -9,7 +10,9 @@ use Rattle.trace_explain.specs.declared.sentence.Ending.{Ending}
 use Rattle.trace_explain.specs.declared.sentence.Ending.TheVariants as ending
 use Rattle.trace_explain.specs.declared.sentence.Reason.{Reason}
 use Rattle.trace_explain.specs.declared.sentence.Reason.TheVariants as reason
-use Rattle.trace_explain.specs.Refusals.{refused_of}
+use Rattle.trace_explain.specs.declared.refusal.UnplugRefusal.{UnplugRefusal}
+use Rattle.trace_explain.specs.declared.refusal.UnplugRefusal.TheVariants as unplug
+use Rattle.usb_model.specs.Refusals.{refused_of}
 
 -- refused for this, idle, no packet, ended with this code, an order that failed at this endpoint, a callback with this status, or nothing to say
 pub data Sort : Type 0 where
@@ -50,13 +53,19 @@ code_of (ending.Broken ep) = transaction_error
 code_of (ending.Babble ep) = babble_detected
 code_of (ending.Unplugged dev) = transaction_error
 
+-- what an Unplug is refused with
+abbrev pub refused_unplug : UnplugRefusal → Refused
+refused_unplug (unplug.NoSuchDevice dev) = refused.NotFound
+refused_unplug (unplug.Unplugged dev) = refused.NoDevice
+
 abbrev pub sort_of_reason : Reason → Sort
-sort_of_reason (reason.Refused refusal) = Refusal (refused_of refusal)
+sort_of_reason (reason.Refused x) = Refusal (refused_of x.refusal)
+sort_of_reason (reason.UnplugRefused x) = Refusal (refused_unplug x)
 sort_of_reason (reason.Idle idleness) = Idleness
 sort_of_reason (reason.Nak unready) = NoPacket
 sort_of_reason (reason.Ended ending) = End (code_of ending)
 sort_of_reason (reason.Failed ep state) = Failure ep
-sort_of_reason (reason.Called status) = Callback status
+sort_of_reason (reason.Called x) = Callback x.status
 
 abbrev pub sort_of : Option Reason → Sort
 sort_of None = Nothing
@@ -64,9 +73,10 @@ sort_of (Some reason) = sort_of_reason reason
 
 -- what the step is refused with for a reason, if it is
 abbrev pub refusal_of : Reason → Option Refused
-refusal_of (reason.Refused refusal) = Some (refused_of refusal)
+refusal_of (reason.Refused x) = Some (refused_of x.refusal)
+refusal_of (reason.UnplugRefused x) = Some (refused_unplug x)
 refusal_of (reason.Idle idleness) = None
 refusal_of (reason.Nak unready) = None
 refusal_of (reason.Ended ending) = None
 refusal_of (reason.Failed ep state) = None
-refusal_of (reason.Called status) = None
+refusal_of (reason.Called x) = None

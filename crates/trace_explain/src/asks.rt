@@ -3,16 +3,15 @@
 ghost use Rattle.std.specs.Prelude.{◌≡◌, Some};
 ghost use Rattle.std.specs.Option.{option_and_then, option_copied, option_map};
 ghost use Rattle.trace_explain.specs.Caller.{machine_of, setup_in};
-ghost use Rattle.trace_explain.specs.Refusals.Asks.{ask_refusal};
+ghost use Rattle.trace_explain.specs.Refusals.{ask_refusal};
 ghost use Rattle.usb_model.specs.Machine.Calls.{home_of};
 ghost use Rattle.usb_model.specs.Endpoint.{in_progress};
 ghost use Rattle.usb_model.specs.Machine.{device_of};
 ghost use Rattle.usb_model.specs.Setup.{endpoints_of};
 
 use crate::caller::Caller;
-use crate::refusal::{Missing, Refusal};
 use reference::calls::in_progress;
-use usb_model::{DeviceNo, EndpointInfo, EpAddr, Item};
+use usb_model::{DeviceNo, EndpointInfo, EpAddr, Item, Missing, Refusal};
 
 impl<'a> Caller<'a> {
     /// The transfer of this number, where it is in progress at one of its endpoints.
@@ -49,16 +48,15 @@ impl<'a> Caller<'a> {
     }
 
     /// Why a transfer can't be asked to end. `timed`: its time is over.
-    #[tactic(auto, unfolding(crate::specs::Refusals::Asks::ask_refusal))]
+    #[tactic(auto, unfolding(crate::specs::Refusals::ask_refusal))]
     pub fn ask_refusal(&self, n: u64, timed: bool) -> Option<Refusal>
-        ensures { result ≡ ask_refusal (setup_in self.now) self.now.name (machine_of self.now) n timed }
+        ensures { result ≡ ask_refusal (setup_in self.now) (machine_of self.now) n timed }
     {
-        let h = self.name;
         let Some(item) = self.item(n) else {
             return Some(Refusal::NotFound(if n < self.handle.next_number {
                 Missing::Progress { n }
             } else {
-                Missing::Number { h, n }
+                Missing::Number { n }
             }));
         };
         if item.ask.is_some() {

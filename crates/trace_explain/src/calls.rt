@@ -2,26 +2,30 @@
 
 ghost use Rattle.std.specs.Prelude.{◌≡◌, ℕ, Some};
 ghost use Rattle.trace_explain.specs.Caller.{machine_of, setup_in, world_in};
-ghost use Rattle.trace_explain.specs.Refusals.{claim_refusal, close_refusal, elsewhere, first_elsewhere, open_refusal, release_refusal, reset_refusal, unplug_refusal};
+ghost use Rattle.trace_explain.specs.Reasons.{unplug_reason};
+ghost use Rattle.trace_explain.specs.Refusals.{claim_refusal, close_refusal, first_elsewhere, held_elsewhere, open_refusal, release_refusal, reset_refusal};
 ghost use Rattle.reference.specs.System.{world_of};
+ghost use Rattle.usb_model.specs.Refusals.{first_reason};
+ghost use Rattle.usb_model.specs.Setup.{is_device};
 ghost use Rattle.std.specs.List.{find};
 ghost use Rattle.std.specs.Option.{option_copied};
 ghost use Rattle.usb_model.specs.Setup.{interfaces_of};
 ghost use Rattle.usb_model.specs.World.{is_others};
 
 use crate::caller::Caller;
-use crate::refusal::{Missing, Obstacle, Refusal};
+use crate::refusal::UnplugRefusal;
+use crate::sentence::Reason;
 use reference::System;
-use usb_model::{DeviceNo, Name, Setup};
+use usb_model::{DeviceNo, Missing, Name, Obstacle, Refusal, Setup};
 
 /// Why a device can't be unplugged.
-pub(crate) fn unplug_refusal(setup: &Setup, system: &System, dev: DeviceNo) -> Option<Refusal>
-    ensures { result ≡ unplug_refusal setup.now (world_of setup.now system.now).gone dev }
+pub(crate) fn unplug_reason(setup: &Setup, system: &System, dev: DeviceNo) -> Option<Reason>
+    ensures { result ≡ unplug_reason (is_device setup.now dev) ((world_of setup.now system.now).gone dev) dev }
 {
     if !setup.is_device(dev) {
-        Some(Refusal::NotFound(Missing::Device { dev }))
+        Some(Reason::UnplugRefused(UnplugRefusal::NoSuchDevice { dev }))
     } else if system.is_gone(dev) {
-        Some(Refusal::NoDevice { dev })
+        Some(Reason::UnplugRefused(UnplugRefusal::Unplugged { dev }))
     } else {
         None
     }
@@ -29,7 +33,7 @@ pub(crate) fn unplug_refusal(setup: &Setup, system: &System, dev: DeviceNo) -> O
 
 /// Whoever holds an interface, if it is another.
 fn elsewhere(h: Name, i: u8, holder: Option<Name>) -> Option<Refusal>
-    ensures { result ≡ elsewhere h i holder }
+    ensures { result ≡ first_reason (held_elsewhere h i holder) }
 {
     let holder = holder?;
     if holder != h {
@@ -43,7 +47,7 @@ impl<'a> Caller<'a> {
     /// Why it can't open a device.
     #[tactic(auto, unfolding(crate::specs::Refusals::open_refusal))]
     pub fn open_refusal(&self, dev: DeviceNo) -> Option<Refusal>
-        ensures { result ≡ open_refusal (setup_in self.now) self.now.name (machine_of self.now) dev }
+        ensures { result ≡ open_refusal (setup_in self.now) (machine_of self.now) dev }
     {
         if !self.setup.is_device(dev) {
             return Some(Refusal::NotFound(Missing::Device { dev }));
@@ -52,18 +56,16 @@ impl<'a> Caller<'a> {
             return Some(Refusal::NoDevice { dev });
         }
         let dev = self.handle.device?;
-        let h = self.name;
-        Some(Refusal::Busy(Obstacle::Open { h, dev }))
+        Some(Refusal::Busy(Obstacle::Open { dev }))
     }
 
     /// Why it can't close its device.
     #[tactic(auto, unfolding(crate::specs::Refusals::close_refusal))]
     pub fn close_refusal(&self) -> Option<Refusal>
-        ensures { result ≡ close_refusal (setup_in self.now) self.now.name (machine_of self.now) }
+        ensures { result ≡ close_refusal (setup_in self.now) (machine_of self.now) }
     {
-        let h = self.name;
         let Some(dev) = self.handle.device else {
-            return Some(Refusal::NotFound(Missing::Open { h }));
+            return Some(Refusal::NotFound(Missing::Open));
         };
         Some(Refusal::Busy(self.unquiet(dev, None)?))
     }
@@ -73,9 +75,8 @@ impl<'a> Caller<'a> {
     pub fn claim_refusal(&self, i: u8) -> Option<Refusal>
         ensures { result ≡ claim_refusal (setup_in self.now) self.now.name (machine_of self.now) (world_in self.now).claims i }
     {
-        let h = self.name;
         let Some(dev) = self.handle.device else {
-            return Some(Refusal::NotFound(Missing::Open { h }));
+            return Some(Refusal::NotFound(Missing::Open));
         };
         if self.system.is_gone(dev) {
             return Some(Refusal::NoDevice { dev });
@@ -83,20 +84,23 @@ impl<'a> Caller<'a> {
         if !self.setup.has_interface(dev, i) {
             return Some(Refusal::NotFound(Missing::Interface { dev, i }));
         }
-        elsewhere(h, i, self.system.claimant(dev, i))
+        elsewhere(self.name, i, self.system.claimant(dev, i))
     }
 
     /// Why it can't release an interface.
     #[tactic(auto, unfolding(crate::specs::Refusals::release_refusal))]
     pub fn release_refusal(&self, i: u8) -> Option<Refusal>
-        ensures { result ≡ release_refusal (setup_in self.now) self.now.name (machine_of self.now) i }
+        ensures { result ≡ release_refusal (setup_in self.now) (machine_of self.now) i }
     {
-        let h = self.name;
         let Some(dev) = self.handle.device else {
-            return Some(Refusal::NotFound(Missing::Open { h }));
+            return Some(Refusal::NotFound(Missing::Open));
         };
-        if !self.system.is_claimed(h, dev, i) {
-            return Some(Refusal::NotFound(Missing::Claim { h, i }));
+        if !self.system.is_claimed(self.name, dev, i) {
+            return Some(Refusal::NotFound(if self.setup.has_interface(dev, i) {
+                Missing::Claim { i }
+            } else {
+                Missing::Interface { dev, i }
+            }));
         }
         Some(Refusal::Busy(self.unquiet(dev, Some(i))?))
     }
@@ -113,7 +117,7 @@ impl<'a> Caller<'a> {
 
     /// Whoever else holds the first interface of a device that another holds.
     fn first_elsewhere(&self, dev: DeviceNo) -> Option<Refusal>
-        ensures { let w = world_in self.now in result ≡ first_elsewhere self.now.name (λ i. w.claims dev i) (interfaces_of (setup_in self.now) dev) }
+        ensures { let w = world_in self.now in result ≡ first_reason (first_elsewhere self.now.name (λ i. w.claims dev i) (interfaces_of (setup_in self.now) dev)) }
     {
         match self.first_of_others(dev) {
             None => None,
@@ -126,9 +130,8 @@ impl<'a> Caller<'a> {
     pub fn reset_refusal(&self) -> Option<Refusal>
         ensures { result ≡ reset_refusal (setup_in self.now) self.now.name (machine_of self.now) (world_in self.now).claims }
     {
-        let h = self.name;
         let Some(dev) = self.handle.device else {
-            return Some(Refusal::NotFound(Missing::Open { h }));
+            return Some(Refusal::NotFound(Missing::Open));
         };
         if self.system.is_gone(dev) {
             return Some(Refusal::NoDevice { dev });

@@ -21,7 +21,7 @@ pub struct EndpointList {
 
 impl EndpointList {
     /// No endpoint so far.
-    fn new() -> EndpointList
+    pub(crate) fn new() -> EndpointList
         ensures { result ≡ no_endpoints }
     {
         EndpointList {

@@ -10,6 +10,7 @@ ghost use Rattle.usb_model.specs.declared.reply.Returned.{Returned};
 ghost use Rattle.usb_model.specs.declared.step.Step.{Step};
 ghost use Rattle.usb_model.specs.Setup.{Setup};
 ghost use Rattle.usb_model.specs.World.{World, turn};
+ghost use Rattle.trace_explain.specs.declared.sentence.CalledWith.{CalledWith};
 ghost use Rattle.trace_explain.specs.declared.sentence.Ending.{Ending};
 ghost use Rattle.trace_explain.specs.declared.sentence.Idleness.{Idleness};
 ghost use Rattle.trace_explain.specs.declared.sentence.Reason.TheVariants.{Called, Ended, Failed, Idle, Nak};
@@ -40,5 +41,5 @@ pub fn others()
     ensures failed { (setup : Setup) (w : World) (step : Step) (ep : ℕ) (errand : Errand) → (turn setup w step).entry.reply ≡ reply.Ran ep errand false
         → (state : EndpointState) × (reason_of setup w step ≡ Some (Failed ep state)) }
     ensures called { (setup : Setup) (w : World) (step : Step) (returned : Returned) → (turn setup w step).entry.reply ≡ reply.Called returned
-        → reason_of setup w step ≡ Some (Called returned.status) }
+        → (x : CalledWith) × (reason_of setup w step ≡ Some (Called x)) × (x.status ≡ returned.status) }
 {}

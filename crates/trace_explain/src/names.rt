@@ -1,10 +1,10 @@
 //! How sentences name what they speak of.
 
 ghost use Rattle.std.specs.Prelude.{Some};
-ghost use Rattle.trace_explain.specs.Text.{called_text, device_text, handle_text, kind_text, state_text, transfer_text};
+ghost use Rattle.trace_explain.specs.Text.{device_text, handle_text, kind_text, state_text, transfer_text};
 
 use std::fmt;
-use usb_model::{DeviceNo, EndpointState, Kind, Name, Status};
+use usb_model::{DeviceNo, EndpointState, Kind, Name};
 
 /// A handle: `h` and its number.
 #[derive(Clone, Copy)]
@@ -79,26 +79,6 @@ impl fmt::Display for StateName {
             EndpointState::Running => f.write_str("running"),
             EndpointState::Stopped => f.write_str("stopped"),
             EndpointState::Halted => f.write_str("halted"),
-        }
-    }
-}
-
-/// What a status says.
-#[derive(Clone, Copy)]
-pub(crate) struct StatusName(pub Status);
-
-impl fmt::Display for StatusName {
-    ghost output = { λ x. Some (called_text x.0) };
-
-    fn fmt<W: fmt::Write>(&self, f: &mut fmt::Formatter<W>) -> fmt::Result {
-        match self.0 {
-            Status::Completed => f.write_str("it did what was asked"),
-            Status::Error => f.write_str("it failed, or was read short where that is an error"),
-            Status::TimedOut => f.write_str("it ended since its time was over"),
-            Status::Cancelled => f.write_str("it ended since it was cancelled"),
-            Status::Stall => f.write_str("the device stalled"),
-            Status::NoDevice => f.write_str("its device was unplugged"),
-            Status::Overflow => f.write_str("the device sent more than there was room for"),
         }
     }
 }

@@ -1,39 +1,42 @@
 //! What is under way at the endpoints of a handle.
 
-ghost use Rattle.std.specs.Prelude.{◌≡◌, ◌==◌, ◌&&◌, not, Some};
+ghost use Rattle.std.specs.Prelude.{◌≡◌, ◌==◌, ◌&&◌, true, false, not, MatchOption, Some};
 ghost use Rattle.std.specs.List.{count_by, find};
-ghost use Rattle.std.specs.Option.{option_copied};
+ghost use Rattle.std.specs.Option.{option_copied, option_map};
 ghost use Rattle.reference.specs.System.{is_chosen};
 ghost use Rattle.trace_explain.specs.Caller.{machine_of, setup_in};
-ghost use Rattle.trace_explain.specs.Refusals.Quiet.{called, in_line, ordered, unquiet, unquiet_at, untaken};
+ghost use Rattle.usb_model.specs.Machine.Calls.{busy_at, first_in_progress, quiet_facts};
+ghost use Rattle.usb_model.specs.Refusals.{in_way};
 ghost use Rattle.usb_model.specs.Setup.{endpoints_of};
-ghost use Rattle.usb_model.specs.Machine.{is_quiet, is_result_at};
+ghost use Rattle.usb_model.specs.Machine.{is_callback_at, is_quiet, is_result_at};
 ghost use Rattle.usb_model.specs.World.Shared.{pieces_of};
 
 use crate::caller::Caller;
-use crate::refusal::Obstacle;
 use reference::Call;
 use usb_model::{
-    DeviceNo, EndpointInfo, EpAddr, Errand, InCallback, Item, Name, Tagged, TransferResult,
+    DeviceNo, EndpointInfo, EpAddr, InCallback, Item, Name, Obstacle, Tagged, TransferResult,
 };
 
-/// The first transfer in a line.
-pub(crate) fn in_line(ep: EpAddr, line: &[Item]) -> Option<Obstacle>
-    ensures { result ≡ in_line ep line.now }
+/// The first transfer in progress in a line.
+#[tactic(auto, unfolding(usb_model::specs::Machine::Calls::first_in_progress))]
+pub(crate) fn first_in_progress(line: &[Item]) -> Option<u64>
+    ensures { result ≡ first_in_progress line.now }
 {
     match line {
         [] => None,
-        [first, ..] => Some(Obstacle::InLine { n: first.n, ep }),
+        [first, rest @ ..] if first.is_blank() => first_in_progress(rest),
+        [first, ..] => Some(first.n),
     }
 }
 
-/// An order that is under way.
-fn ordered(ep: EpAddr, errand: Option<Errand>) -> Option<Obstacle>
-    ensures { result ≡ ordered ep errand }
+/// What is in the way in a line that isn't empty.
+pub(crate) fn in_way(ep: EpAddr, first: Option<u64>, errand: bool) -> Obstacle
+    ensures { result ≡ in_way ep first errand }
 {
-    match errand {
-        None => None,
-        Some(_) => Some(Obstacle::Order { ep }),
+    match first {
+        Some(n) => Obstacle::Waits { n, ep },
+        None if errand => Obstacle::Order { ep },
+        None => Obstacle::Blank { ep },
     }
 }
 
@@ -55,22 +58,19 @@ pub(crate) fn results_at(results: &[Tagged<TransferResult>], h: Name, ep: EpAddr
     results.iter().filter(|x| x.is_at(h, ep)).count()
 }
 
-/// The first result of the name's, of this endpoint, that isn't taken.
+/// The number of the first of the name's results of this endpoint.
 #[tactic(auto, using(crate::proofs::Named::first_of_name))]
-fn untaken(results: &[Tagged<TransferResult>], h: Name, ep: EpAddr) -> Option<Obstacle>
-    ensures { result ≡ untaken ep (pieces_of h results.now) }
+fn untaken(results: &[Tagged<TransferResult>], h: Name, ep: EpAddr) -> Option<u64>
+    ensures { result ≡ option_map (λ x. x.n) (find (is_result_at ep) (pieces_of h results.now)) }
 {
-    let found = result_at(results, h, ep)?;
-    let n = found.piece.n;
-    Some(Obstacle::Result { n, ep })
+    Some(result_at(results, h, ep)?.piece.n)
 }
 
-/// The first transfer of this endpoint in its callback.
-fn called(ep: EpAddr, callbacks: &[InCallback]) -> Option<Obstacle>
-    ensures { result ≡ called ep callbacks.now }
+/// The number of the first transfer of this endpoint in its callback.
+fn called(ep: EpAddr, callbacks: &[InCallback]) -> Option<u64>
+    ensures { result ≡ option_map (λ x. x.n) (find (is_callback_at ep) callbacks.now) }
 {
-    let found = callbacks.iter().find(|x| x.request.ep == ep)?;
-    Some(Obstacle::Callback { n: found.n, ep })
+    Some(callbacks.iter().find(|x| x.request.ep == ep)?.n)
 }
 
 /// Whether an endpoint belongs to this interface, or to any.
@@ -85,21 +85,26 @@ fn is_chosen(only: Option<u8>, info: &EndpointInfo) -> bool
 
 impl<'a> Caller<'a> {
     /// What isn't quiet at an endpoint.
-    fn unquiet_at(&self, dev: DeviceNo, ep: EpAddr) -> Option<Obstacle>
-        ensures { let m = machine_of self.now in result ≡ unquiet_at m ep (m.endpoints dev ep) }
+    fn busy_at(&self, dev: DeviceNo, ep: EpAddr) -> Obstacle
+        ensures { let m = machine_of self.now in result ≡ busy_at m ep (m.endpoints dev ep) }
     {
-        let h = self.name;
-        let system = self.system;
-        let endpoint = system.endpoint_of(self.setup, h, dev, ep)?;
-        if let Some(found) = in_line(ep, endpoint.line.as_slice()) {
-            return Some(found);
+        let (h, system) = (self.name, self.system);
+        let Some(endpoint) = system.endpoint_of(self.setup, h, dev, ep) else {
+            return Obstacle::Numbers;
+        };
+        let line = endpoint.line.as_slice();
+        if !line.is_empty() {
+            return in_way(ep, first_in_progress(line), endpoint.errand.is_some());
         }
-        if let Some(found) = ordered(ep, endpoint.errand) {
-            return Some(found);
+        if endpoint.errand.is_some() {
+            return Obstacle::Order { ep };
         }
-        match untaken(system.results.as_slice(), h, ep) {
-            Some(found) => Some(found),
-            None => called(ep, self.handle.in_callbacks.as_slice()),
+        if let Some(n) = untaken(system.results.as_slice(), h, ep) {
+            return Obstacle::Result { n, ep };
+        }
+        match called(ep, self.handle.in_callbacks.as_slice()) {
+            Some(n) => Obstacle::Callback { n, ep },
+            None => Obstacle::Numbers,
         }
     }
 
@@ -123,14 +128,14 @@ impl<'a> Caller<'a> {
         infos.find(|info| self.is_unquiet(dev, only, info))
     }
 
-    /// What isn't quiet there.
+    /// What isn't quiet there; None where all is.
     pub fn unquiet(&self, dev: DeviceNo, only: Option<u8>) -> Option<Obstacle>
         requires { self.now.handle.now.device ≡ Some dev }
-        ensures { result ≡ unquiet (setup_in self.now) (machine_of self.now) (is_chosen only) }
+        ensures { let q = quiet_facts (setup_in self.now) (machine_of self.now) (is_chosen only) in MatchOption result (q.quiet ≡ true) (λ o. (q.quiet ≡ false) × (o ≡ q.obstacle)) }
     {
         match self.first_unquiet(dev, only) {
             None => None,
-            Some(info) => self.unquiet_at(dev, info.address),
+            Some(info) => Some(self.busy_at(dev, info.address)),
         }
     }
 }

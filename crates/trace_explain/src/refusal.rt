@@ -1,171 +1,81 @@
-//! Why a call is refused, by what it is refused with.
+//! The sentence of a refusal.
 
-ghost use Rattle.std.specs.Prelude.{◌≡◌, Some};
-ghost use Rattle.trace_explain.specs.Refusals.{refused_of};
-ghost use Rattle.trace_explain.specs.Text.{missing_text, misfit_text, obstacle_text, refusal_text};
+ghost use Rattle.std.specs.Prelude.{Some};
+ghost use Rattle.trace_explain.specs.Text.{missing_text, misfit_text, obstacle_text, places_text, refusal_text, unplug_text};
 
 use crate::endpoints::EndpointList;
 use crate::names::{DeviceName, HandleName, KindName, TransferName};
 use std::fmt;
-use usb_model::{DeviceNo, EpAddr, Kind, Name, Refused};
+use usb_model::{DeviceNo, Misfit, Missing, Name, Obstacle, Places, Refusal};
+
+/// Why a call of a handle is refused, with what its sentence names.
+#[derive(Clone, Copy, PartialEq, Eq, Debug)]
+pub struct CallRefusal {
+    /// Whose call it is.
+    pub h: Name,
+    /// The endpoints of the device that it has open.
+    pub endpoints: EndpointList,
+    /// The test that refuses.
+    pub refusal: Refusal,
+}
+
+/// Why a device can't be unplugged.
+#[derive(Clone, Copy, PartialEq, Eq, Debug)]
+pub enum UnplugRefusal {
+    /// There is no such device.
+    NoSuchDevice { dev: DeviceNo },
+    /// It was unplugged before.
+    Unplugged { dev: DeviceNo },
+}
 
 /// What isn't there, or isn't the handle's.
-#[derive(Clone, Copy, PartialEq, Eq, Debug)]
-pub enum Missing {
-    /// There is no such device.
-    Device {
-        dev: DeviceNo,
-    },
-    /// The handle has no device open.
-    Open {
-        h: Name,
-    },
-    /// The device has no such interface.
-    Interface {
-        dev: DeviceNo,
-        i: u8,
-    },
-    /// The device has no such endpoint, but these.
-    Endpoint {
-        dev: DeviceNo,
-        ep: EpAddr,
-        list: EndpointList,
-    },
-    /// The handle doesn't hold the interface.
-    Claim {
-        h: Name,
-        i: u8,
-    },
-    /// The handle doesn't hold the interface of the endpoint.
-    ClaimFor {
-        h: Name,
-        i: u8,
-        ep: EpAddr,
-    },
-    /// The handle was never given the number.
-    Number {
-        h: Name,
-        n: u64,
-    },
-    /// The transfer isn't in progress any more.
-    Progress {
-        n: u64,
-    },
-    /// The transfer was asked to end already, so it can't be asked again.
-    Ask {
-        n: u64,
-    },
-    /// The transfer has no timeout.
-    Timeout {
-        n: u64,
-    },
-    /// The transfer isn't in its callback.
-    Callback {
-        n: u64,
-    },
+#[derive(Clone, Copy)]
+struct MissingSaid<'a> {
+    h: Name,
+    endpoints: &'a EndpointList,
+    missing: Missing,
 }
 
 /// What of the handle's own is in the way.
-#[derive(Clone, Copy, PartialEq, Eq, Debug)]
-pub enum Obstacle {
-    /// It has a device open.
-    Open { h: Name, dev: DeviceNo },
-    /// A transfer is in the line of the endpoint.
-    InLine { n: u64, ep: EpAddr },
-    /// An order is under way at the endpoint.
-    Order { ep: EpAddr },
-    /// The result of a transfer at the endpoint isn't taken.
-    Result { n: u64, ep: EpAddr },
-    /// A transfer of the endpoint is in its callback.
-    Callback { n: u64, ep: EpAddr },
-    /// All places of the endpoint are in use.
-    Full { ep: EpAddr },
-    /// The numbers of the handle's transfers are used up.
-    Numbers { h: Name },
+#[derive(Clone, Copy)]
+struct ObstacleSaid {
+    h: Name,
+    obstacle: Obstacle,
 }
+
+/// What keeps the places of an endpoint.
+#[derive(Clone, Copy)]
+struct PlacesSaid(Places);
 
 /// What of a request is wrong for its endpoint.
-#[derive(Clone, Copy, PartialEq, Eq, Debug)]
-pub enum Misfit {
-    /// The endpoint is of another kind than was asked for.
-    Kind { ep: EpAddr, kind: Kind, asked: Kind },
-    /// It reads, and the endpoint is OUT.
-    Reads { ep: EpAddr },
-    /// It writes, and the endpoint is IN.
-    Writes { ep: EpAddr },
-    /// It has more bytes than a transfer may have.
-    Bytes { bytes: usize },
-}
+#[derive(Clone, Copy)]
+struct MisfitSaid(Misfit);
 
-/// Why a call is refused: the first test that refuses it, in the order of the model's tables.
-#[derive(Clone, Copy, PartialEq, Eq, Debug)]
-pub enum Refusal {
-    /// Something isn't there, or isn't the handle's.
-    NotFound(Missing),
-    /// The device was unplugged.
-    NoDevice { dev: DeviceNo },
-    /// Something of the handle's own is in the way.
-    Busy(Obstacle),
-    /// Another handle holds the interface.
-    HeldElsewhere { holder: Name, i: u8 },
-    /// The request is wrong for its endpoint.
-    InvalidParam(Misfit),
-    /// The endpoint is of a kind whose transfers aren't submitted.
-    NotSupported { ep: EpAddr, kind: Kind },
-}
-
-impl Refusal {
-    /// What a call is refused with for this reason.
-    pub fn refused(self) -> Refused
-        ensures { result ≡ refused_of self }
-    {
-        match self {
-            Refusal::NotFound(_) => Refused::NotFound,
-            Refusal::NoDevice { .. } => Refused::NoDevice,
-            Refusal::Busy(_) => Refused::Busy,
-            Refusal::HeldElsewhere { .. } => Refused::HeldElsewhere,
-            Refusal::InvalidParam(_) => Refused::InvalidParam,
-            Refusal::NotSupported { .. } => Refused::NotSupported,
-        }
-    }
-}
-
-impl fmt::Display for Missing {
-    ghost output = { λ x. Some (missing_text x) };
+impl<'a> fmt::Display for MissingSaid<'a> {
+    ghost output = { λ x. Some (missing_text x.h x.endpoints.now x.missing) };
 
     fn fmt<W: fmt::Write>(&self, f: &mut fmt::Formatter<W>) -> fmt::Result {
-        match self {
+        let (h, list) = (HandleName(self.h), self.endpoints);
+        match &self.missing {
             Missing::Device { dev } => {
                 let dev = DeviceName(*dev);
                 write!(f, "there is no {dev}")
             }
-            Missing::Open { h } => {
-                let h = HandleName(*h);
-                write!(f, "{h} has no device open")
-            }
+            Missing::Open => write!(f, "{h} has no device open"),
             Missing::Interface { dev, i } => {
                 let dev = DeviceName(*dev);
                 write!(f, "{dev} has no interface {i}")
             }
-            Missing::Endpoint { dev, ep, list } => {
+            Missing::Endpoint { dev, ep } => {
                 let dev = DeviceName(*dev);
                 write!(f, "{dev} has no endpoint {ep}; it has {list}")
             }
-            Missing::Claim { h, i } => {
-                let h = HandleName(*h);
-                write!(f, "{h} doesn't hold interface {i}")
-            }
-            Missing::ClaimFor { h, i, ep } => {
-                let h = HandleName(*h);
-                write!(
-                    f,
-                    "{h} doesn't hold interface {i}, which endpoint {ep} belongs to"
-                )
-            }
-            Missing::Number { h, n } => {
-                let h = HandleName(*h);
-                write!(f, "{h} was never given number {n}")
-            }
+            Missing::Claim { i } => write!(f, "{h} doesn't hold interface {i}"),
+            Missing::ClaimFor { i, ep } => write!(
+                f,
+                "{h} doesn't hold interface {i}, which endpoint {ep} belongs to"
+            ),
+            Missing::Number { n } => write!(f, "{h} was never given number {n}"),
             Missing::Progress { n } => {
                 let n = TransferName(*n);
                 write!(f, "{n} isn't in progress any more")
@@ -186,19 +96,48 @@ impl fmt::Display for Missing {
     }
 }
 
-impl fmt::Display for Obstacle {
-    ghost output = { λ x. Some (obstacle_text x) };
+/// So many of something behind a text, where there are some. `behind`: another stands in front.
+fn write_part<W: fmt::Write>(
+    f: &mut fmt::Formatter<W>,
+    behind: bool,
+    count: usize,
+    what: &str,
+) -> fmt::Result {
+    if count == 0 {
+        return Ok(());
+    }
+    if behind {
+        f.write_str(", ")?;
+    }
+    write!(f, "{count}{what}")
+}
+
+impl fmt::Display for PlacesSaid {
+    ghost output = { λ x. Some (places_text x.0) };
 
     fn fmt<W: fmt::Write>(&self, f: &mut fmt::Formatter<W>) -> fmt::Result {
-        match self {
-            Obstacle::Open { h, dev } => {
-                let (h, dev) = (HandleName(*h), DeviceName(*dev));
+        let by = self.0;
+        write_part(f, false, by.waiting, " in progress")?;
+        write_part(f, by.waiting > 0, by.blank, " withdrawn until move")?;
+        write_part(f, by.waiting > 0 || by.blank > 0, by.untaken, " not taken")
+    }
+}
+
+impl fmt::Display for ObstacleSaid {
+    ghost output = { λ x. Some (obstacle_text x.h x.obstacle) };
+
+    fn fmt<W: fmt::Write>(&self, f: &mut fmt::Formatter<W>) -> fmt::Result {
+        let h = HandleName(self.h);
+        match &self.obstacle {
+            Obstacle::Open { dev } => {
+                let dev = DeviceName(*dev);
                 write!(f, "{h} has {dev} open already")
             }
-            Obstacle::InLine { n, ep } => {
+            Obstacle::Waits { n, ep } => {
                 let n = TransferName(*n);
                 write!(f, "{n} is in the line of {ep}")
             }
+            Obstacle::Blank { ep } => write!(f, "a withdrawn transfer keeps its place at {ep}"),
             Obstacle::Order { ep } => write!(f, "an order is under way at {ep}"),
             Obstacle::Result { n, ep } => {
                 let n = TransferName(*n);
@@ -208,20 +147,20 @@ impl fmt::Display for Obstacle {
                 let n = TransferName(*n);
                 write!(f, "{n} of {ep} is in its callback")
             }
-            Obstacle::Full { ep } => write!(f, "{ep} has 16 transfers, and takes no more"),
-            Obstacle::Numbers { h } => {
-                let h = HandleName(*h);
-                write!(f, "{h} has no number left for a transfer")
+            Obstacle::Full { ep, by } => {
+                let by = PlacesSaid(*by);
+                write!(f, "{ep} has no place left: {by}")
             }
+            Obstacle::Numbers => write!(f, "{h} has no number left for a transfer"),
         }
     }
 }
 
-impl fmt::Display for Misfit {
-    ghost output = { λ x. Some (misfit_text x) };
+impl fmt::Display for MisfitSaid {
+    ghost output = { λ x. Some (misfit_text x.0) };
 
     fn fmt<W: fmt::Write>(&self, f: &mut fmt::Formatter<W>) -> fmt::Result {
-        match self {
+        match &self.0 {
             Misfit::Kind { ep, kind, asked } => {
                 let (kind, asked) = (KindName(*kind), KindName(*asked));
                 write!(f, "endpoint {ep} is {kind}, and the request {asked}")
@@ -235,22 +174,55 @@ impl fmt::Display for Misfit {
     }
 }
 
-impl fmt::Display for Refusal {
-    ghost output = { λ x. Some (refusal_text x) };
+impl fmt::Display for UnplugRefusal {
+    ghost output = { λ x. Some (unplug_text x) };
 
     fn fmt<W: fmt::Write>(&self, f: &mut fmt::Formatter<W>) -> fmt::Result {
         match self {
-            Refusal::NotFound(missing) => write!(f, "{missing}"),
+            UnplugRefusal::NoSuchDevice { dev } => {
+                let dev = DeviceName(*dev);
+                write!(f, "there is no {dev}")
+            }
+            UnplugRefusal::Unplugged { dev } => {
+                let dev = DeviceName(*dev);
+                write!(f, "{dev} was unplugged")
+            }
+        }
+    }
+}
+
+impl fmt::Display for CallRefusal {
+    ghost output = { λ x. Some (refusal_text x.h x.endpoints x.refusal) };
+
+    fn fmt<W: fmt::Write>(&self, f: &mut fmt::Formatter<W>) -> fmt::Result {
+        let (h, endpoints) = (self.h, &self.endpoints);
+        match &self.refusal {
+            Refusal::NotFound(missing) => {
+                let missing = *missing;
+                let said = MissingSaid {
+                    h,
+                    endpoints,
+                    missing,
+                };
+                write!(f, "{said}")
+            }
             Refusal::NoDevice { dev } => {
                 let dev = DeviceName(*dev);
                 write!(f, "{dev} was unplugged")
             }
-            Refusal::Busy(obstacle) => write!(f, "{obstacle}"),
+            Refusal::Busy(obstacle) => {
+                let obstacle = *obstacle;
+                let said = ObstacleSaid { h, obstacle };
+                write!(f, "{said}")
+            }
             Refusal::HeldElsewhere { holder, i } => {
                 let holder = HandleName(*holder);
                 write!(f, "{holder} holds interface {i}")
             }
-            Refusal::InvalidParam(misfit) => write!(f, "{misfit}"),
+            Refusal::InvalidParam(misfit) => {
+                let said = MisfitSaid(*misfit);
+                write!(f, "{said}")
+            }
             Refusal::NotSupported { ep, kind } => {
                 let kind = KindName(*kind);
                 write!(

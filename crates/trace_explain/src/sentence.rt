@@ -1,22 +1,41 @@
 //! Why an entry says what it says.
 
 ghost use Rattle.std.specs.Prelude.{Some};
-ghost use Rattle.trace_explain.specs.Text.{ending_text, idleness_text, reason_text, unready_text};
+ghost use Rattle.trace_explain.specs.Text.{called_text, ending_text, idleness_text, reason_text, unready_text};
 
-use crate::names::{DeviceName, HandleName, StateName, StatusName};
-use crate::refusal::Refusal;
+use crate::endpoints::EndpointList;
+use crate::names::{DeviceName, HandleName, StateName};
+use crate::refusal::{CallRefusal, UnplugRefusal};
 use std::fmt;
 use usb_model::{DeviceNo, EndpointState, EpAddr, Name, Status};
 
 /// Why there was nothing to do.
 #[derive(Clone, Copy, PartialEq, Eq, Debug)]
 pub enum Idleness {
+    /// There is no such device.
+    NoDevice {
+        dev: DeviceNo,
+    },
+    /// The device has no such endpoint, but these.
+    NoEndpoint {
+        dev: DeviceNo,
+        ep: EpAddr,
+        list: EndpointList,
+    },
     /// No handle holds the endpoint.
-    NoHolder { dev: DeviceNo, ep: EpAddr },
+    NoHolder {
+        dev: DeviceNo,
+        ep: EpAddr,
+    },
     /// The endpoint is stopped or halted.
-    Stands { ep: EpAddr, state: EndpointState },
+    Stands {
+        ep: EpAddr,
+        state: EndpointState,
+    },
     /// No transfer waits at the endpoint.
-    NoTransfer { ep: EpAddr },
+    NoTransfer {
+        ep: EpAddr,
+    },
     /// No order waits.
     NoOrder,
     /// No event waits.
@@ -24,7 +43,10 @@ pub enum Idleness {
     /// No result waits.
     NoResult,
     /// The endpoint of the first order or event isn't the handle's any more.
-    Lost { h: Name, ep: EpAddr },
+    Lost {
+        h: Name,
+        ep: EpAddr,
+    },
 }
 
 /// Why the device gave no packet.
@@ -57,11 +79,26 @@ pub enum Ending {
     Unplugged { dev: DeviceNo },
 }
 
+/// What a callback is told of how its transfer ended.
+#[derive(Clone, Copy, PartialEq, Eq, Debug)]
+pub struct CalledWith {
+    /// Its status.
+    pub status: Status,
+    /// How many bytes moved.
+    pub moved: usize,
+    /// How many were to move.
+    pub bytes: usize,
+    /// Whether it is a read for which less is an error (libusb, `LIBUSB_TRANSFER_SHORT_NOT_OK`).
+    pub short_not_ok: bool,
+}
+
 /// Why an entry says what it says. Most entries of steps that were done have none.
 #[derive(Clone, Copy, PartialEq, Eq, Debug)]
 pub enum Reason {
     /// Why a call is refused.
-    Refused(Refusal),
+    Refused(CallRefusal),
+    /// Why a device can't be unplugged.
+    UnplugRefused(UnplugRefusal),
     /// Why there was nothing to do.
     Idle(Idleness),
     /// Why the device gave no packet.
@@ -70,8 +107,8 @@ pub enum Reason {
     Ended(Ending),
     /// Why an order failed: the endpoint is in this state.
     Failed { ep: EpAddr, state: EndpointState },
-    /// What the status says that a callback is told.
-    Called(Status),
+    /// What a callback is told.
+    Called(CalledWith),
 }
 
 impl fmt::Display for Idleness {
@@ -79,6 +116,14 @@ impl fmt::Display for Idleness {
 
     fn fmt<W: fmt::Write>(&self, f: &mut fmt::Formatter<W>) -> fmt::Result {
         match self {
+            Idleness::NoDevice { dev } => {
+                let dev = DeviceName(*dev);
+                write!(f, "there is no {dev}")
+            }
+            Idleness::NoEndpoint { dev, ep, list } => {
+                let dev = DeviceName(*dev);
+                write!(f, "{dev} has no endpoint {ep}; it has {list}")
+            }
             Idleness::NoHolder { dev, ep } => {
                 let dev = DeviceName(*dev);
                 write!(f, "no handle holds endpoint {ep} of {dev}")
@@ -136,6 +181,30 @@ impl fmt::Display for Ending {
     }
 }
 
+impl fmt::Display for CalledWith {
+    ghost output = { λ x. Some (called_text x x.status) };
+
+    fn fmt<W: fmt::Write>(&self, f: &mut fmt::Formatter<W>) -> fmt::Result {
+        let (moved, bytes) = (self.moved, self.bytes);
+        match self.status {
+            Status::Completed if moved < bytes => {
+                write!(f, "a short packet ended it: {moved} of {bytes} bytes")
+            }
+            Status::Completed => f.write_str("it did what was asked"),
+            Status::Error if self.short_not_ok && moved < bytes => write!(
+                f,
+                "it failed, or was read short where that is an error: {moved} of {bytes} bytes"
+            ),
+            Status::Error => f.write_str("it failed"),
+            Status::TimedOut => f.write_str("it ended since its time was over"),
+            Status::Cancelled => f.write_str("it ended since it was cancelled"),
+            Status::Stall => f.write_str("the device stalled"),
+            Status::NoDevice => f.write_str("its device was unplugged"),
+            Status::Overflow => f.write_str("the device sent more than there was room for"),
+        }
+    }
+}
+
 /// The sentence of a reason.
 impl fmt::Display for Reason {
     ghost output = { λ x. Some (reason_text x) };
@@ -143,6 +212,7 @@ impl fmt::Display for Reason {
     fn fmt<W: fmt::Write>(&self, f: &mut fmt::Formatter<W>) -> fmt::Result {
         match self {
             Reason::Refused(refusal) => write!(f, "{refusal}"),
+            Reason::UnplugRefused(refusal) => write!(f, "{refusal}"),
             Reason::Idle(idleness) => write!(f, "{idleness}"),
             Reason::Nak(unready) => write!(f, "{unready}"),
             Reason::Ended(ending) => write!(f, "{ending}"),
@@ -150,10 +220,7 @@ impl fmt::Display for Reason {
                 let state = StateName(*state);
                 write!(f, "{ep} is {state}")
             }
-            Reason::Called(status) => {
-                let said = StatusName(*status);
-                write!(f, "{said}")
-            }
+            Reason::Called(called) => write!(f, "{called}"),
         }
     }
 }

@@ -1,58 +1,41 @@
 //! Why the end of a halt, or a submission, is refused at an endpoint.
 
-ghost use Rattle.std.specs.Prelude.{◌≡◌, nat_le, MatchOption, None, Some};
+ghost use Rattle.std.specs.Prelude.{◌≡◌, not, MatchOption, None, Some};
+ghost use Rattle.std.specs.List.{count_by};
 ghost use Rattle.trace_explain.specs.Caller.{machine_of, setup_in};
-ghost use Rattle.trace_explain.specs.Refusals.Submissions.{absent, answer_refusal, clear_refusal, misfit_of, no_room, submit_refusal};
-ghost use Rattle.usb_model.specs.Limits.{most_places};
-ghost use Rattle.usb_model.specs.Machine.{endpoint_at, places};
+ghost use Rattle.trace_explain.specs.Refusals.{answer_refusal, clear_refusal, submit_refusal};
+ghost use Rattle.usb_model.specs.Machine.{device_of, endpoint_at};
+ghost use Rattle.usb_model.specs.Machine.Calls.{caller_facts, endpoint_facts, in_progress_count};
+ghost use Rattle.usb_model.specs.Refusals.{absence};
+ghost use Rattle.usb_model.specs.Setup.{interface_of, kind_of};
 
 use crate::caller::Caller;
-use crate::endpoints::EndpointList;
-use crate::quiet::{in_line, results_at};
-use crate::refusal::{Misfit, Missing, Obstacle, Refusal};
-use crate::shape::Shape;
+use crate::quiet::{first_in_progress, results_at};
+use crate::tests_of_calls::{clear_refusal, facts_with, request_facts, submit_refusal};
 use reference::callback::callback_of;
-use usb_model::limits::{LAST_NUMBER, MOST_BYTES, MOST_PLACES};
-use usb_model::{DeviceNo, Endpoint, EpAddr, Kind, Verdict};
+use usb_model::{
+    DeviceNo, Endpoint, EndpointFacts, EpAddr, Item, Missing, Refusal, RequestFacts, Verdict,
+};
 
-impl Shape {
-    /// Why it is wrong for an endpoint of this kind.
-    fn misfit(&self, kind: Kind) -> Option<Refusal>
-        ensures { result ≡ misfit_of self.now kind }
-    {
-        let (ep, asked, bytes) = (self.ep, self.kind, self.bytes);
-        if !asked.is_same(kind) {
-            Some(Refusal::InvalidParam(Misfit::Kind { ep, kind, asked }))
-        } else if self.reads && !ep.is_in() {
-            Some(Refusal::InvalidParam(Misfit::Reads { ep }))
-        } else if !self.reads && ep.is_in() {
-            Some(Refusal::InvalidParam(Misfit::Writes { ep }))
-        } else if MOST_BYTES < bytes {
-            Some(Refusal::InvalidParam(Misfit::Bytes { bytes }))
-        } else {
-            None
-        }
-    }
+/// How many transfers of a line are in progress.
+fn in_progress_count(line: &[Item]) -> usize
+    ensures { result ≡ in_progress_count line.now }
+{
+    line.iter().filter(|item| !item.is_blank()).count()
 }
 
 impl<'a> Caller<'a> {
     /// Why it has no endpoint of this address.
-    fn absent(&self, ep: EpAddr) -> Option<Refusal>
-        ensures { result ≡ absent (setup_in self.now) self.now.name (machine_of self.now) ep }
+    fn absence(&self, ep: EpAddr) -> Refusal
+        ensures { let m = machine_of self.now in result ≡ absence (caller_facts m) ep (interface_of (setup_in self.now) (device_of m) ep) }
     {
-        let h = self.name;
         let Some(dev) = self.handle.device else {
-            return Some(Refusal::NotFound(Missing::Open { h }));
+            return Refusal::NotFound(Missing::Open);
         };
-        let Some(i) = self.setup.interface_of(dev, ep) else {
-            let list = EndpointList::of(self.setup.endpoints_of(dev));
-            return Some(Refusal::NotFound(Missing::Endpoint { dev, ep, list }));
-        };
-        if !self.system.is_claimed(h, dev, i) {
-            Some(Refusal::NotFound(Missing::ClaimFor { h, i, ep }))
-        } else {
-            None
-        }
+        Refusal::NotFound(match self.setup.interface_of(dev, ep) {
+            None => Missing::Endpoint { dev, ep },
+            Some(i) => Missing::ClaimFor { i, ep },
+        })
     }
 
     /// Its endpoint of this address, with its device.
@@ -64,78 +47,60 @@ impl<'a> Caller<'a> {
         Some((dev, endpoint))
     }
 
+    /// What the tests look at of an endpoint of its own.
+    fn facts_at(&self, dev: DeviceNo, ep: EpAddr, endpoint: &Endpoint) -> EndpointFacts
+        ensures { result ≡ endpoint_facts ep (kind_of (setup_in self.now) dev ep) (machine_of self.now) endpoint.now }
+    {
+        let line = endpoint.line.as_slice();
+        EndpointFacts {
+            ep,
+            kind: self.setup.kind_of(dev, ep),
+            line: line.len(),
+            first: first_in_progress(line),
+            waiting: in_progress_count(line),
+            errand: endpoint.errand.is_some(),
+            untaken: results_at(self.system.results.as_slice(), self.name, ep),
+        }
+    }
+
     /// Why it can't end a halt.
-    #[tactic(auto, unfolding(crate::specs::Refusals::Submissions::clear_refusal))]
+    #[tactic(auto, unfolding(crate::specs::Refusals::clear_refusal))]
     pub fn clear_refusal(&self, ep: EpAddr) -> Option<Refusal>
-        ensures { result ≡ clear_refusal (setup_in self.now) self.now.name (machine_of self.now) ep }
+        ensures { result ≡ clear_refusal (setup_in self.now) (machine_of self.now) ep }
     {
         let Some((dev, endpoint)) = self.own(ep) else {
-            return self.absent(ep);
+            return Some(self.absence(ep));
         };
-        if self.system.is_gone(dev) {
-            return Some(Refusal::NoDevice { dev });
-        }
-        let obstacle = in_line(ep, endpoint.line.as_slice())?;
-        Some(Refusal::Busy(obstacle))
+        let gone = self.system.is_gone(dev);
+        clear_refusal(dev, gone, self.facts_at(dev, ep, endpoint))
     }
 
-    /// Whether all places of its endpoint are in use.
-    fn is_full(&self, ep: EpAddr, endpoint: &Endpoint) -> bool
-        ensures { result ≡ nat_le most_places (places (machine_of self.now) ep endpoint.now) }
+    /// Why it can't submit a request like this at an endpoint.
+    #[tactic(auto, unfolding(crate::specs::Refusals::submit_refusal))]
+    pub fn submit_refusal(&self, ep: EpAddr, request: RequestFacts) -> Option<Refusal>
+        ensures { result ≡ submit_refusal (setup_in self.now) (machine_of self.now) ep request }
     {
-        let in_line = endpoint.line.len();
-        MOST_PLACES <= in_line
-            || MOST_PLACES - in_line <= results_at(self.system.results.as_slice(), self.name, ep)
-    }
-
-    /// Why its endpoint, or itself, takes no transfer more.
-    fn no_room(&self, ep: EpAddr, endpoint: &Endpoint) -> Option<Refusal>
-        ensures { result ≡ no_room self.now.name (machine_of self.now) ep endpoint.now }
-    {
-        let h = self.name;
-        if self.is_full(ep, endpoint) {
-            Some(Refusal::Busy(Obstacle::Full { ep }))
-        } else if self.handle.next_number == LAST_NUMBER {
-            Some(Refusal::Busy(Obstacle::Numbers { h }))
-        } else {
-            None
-        }
-    }
-
-    /// Why it can't submit a request of this shape.
-    #[tactic(auto, unfolding(crate::specs::Refusals::Submissions::submit_refusal))]
-    pub fn submit_refusal(&self, x: Shape) -> Option<Refusal>
-        ensures { result ≡ submit_refusal (setup_in self.now) self.now.name (machine_of self.now) x }
-    {
-        let ep = x.ep;
         let Some((dev, endpoint)) = self.own(ep) else {
-            return self.absent(ep);
+            return Some(self.absence(ep));
         };
-        if self.system.is_gone(dev) {
-            return Some(Refusal::NoDevice { dev });
-        }
-        let kind = self.setup.kind_of(dev, ep);
-        if kind.is_unsupported() {
-            return Some(Refusal::NotSupported { ep, kind });
-        }
-        match x.misfit(kind) {
-            Some(refusal) => Some(refusal),
-            None => self.no_room(ep, endpoint),
-        }
+        let gone = self.system.is_gone(dev);
+        let next = self.handle.next_number;
+        submit_refusal(dev, gone, self.facts_at(dev, ep, endpoint), request, next)
     }
 
     /// Why the verdict of a callback is refused.
-    #[tactic(auto, unfolding(crate::specs::Refusals::Submissions::answer_refusal))]
+    #[tactic(auto, unfolding(crate::specs::Refusals::answer_refusal))]
     pub fn answer_refusal(&self, n: u64, verdict: &Verdict) -> Option<Refusal>
-        ensures { result ≡ answer_refusal (setup_in self.now) self.now.name (machine_of self.now) n verdict.now }
+        ensures { result ≡ answer_refusal (setup_in self.now) (machine_of self.now) n verdict.now }
     {
         let Some(x) = callback_of(self.handle, n) else {
             return Some(Refusal::NotFound(Missing::Callback { n }));
         };
+        let ep = x.request.ep;
         match verdict {
             Verdict::Stop => None,
-            Verdict::Again => self.submit_refusal(Shape::of(&x.request)),
-            Verdict::AgainWith(bytes) => self.submit_refusal(Shape::writing(&x.request, bytes)),
+            Verdict::Again => self.submit_refusal(ep, request_facts(&x.request)),
+            Verdict::AgainWith(bytes) => self.submit_refusal(ep, facts_with(&x.request, bytes)),
         }
     }
 }

@@ -3,16 +3,20 @@
 ghost use Rattle.std.specs.Prelude.{◌≡◌};
 ghost use Rattle.reference.specs.System.{world_of};
 ghost use Rattle.trace_explain.specs.Endings.{answer_reason, unready_by};
-ghost use Rattle.trace_explain.specs.Turns.{command_reason, deliver_reason, errand_reason, first_reason, held_reason, serve_reason, take_reason};
+ghost use Rattle.trace_explain.specs.Turns.{command_reason, deliver_reason, errand_reason, first_reason, held_reason, outcome_of, serve_reason, take_reason, unheld};
 ghost use Rattle.usb_model.specs.Endpoint.{first_waiting};
+ghost use Rattle.usb_model.specs.Setup.{interface_of, is_device};
 ghost use Rattle.std.specs.Option.{option_copied};
 
 use crate::answers::next_answer;
 use crate::caller::Caller;
+use crate::endpoints::EndpointList;
 use crate::ends::{End, answer_end};
-use crate::sentence::{Ending, Idleness, Reason, Unready};
+use crate::sentence::{CalledWith, Ending, Idleness, Reason, Unready};
 use reference::System;
-use usb_model::{DeviceNo, Endpoint, EndpointState, EpAddr, Errand, Item, Response, Setup};
+use usb_model::{
+    Body, DeviceNo, Endpoint, EndpointState, EpAddr, Errand, Item, Response, Setup, TransferResult,
+};
 
 /// The first of a line that waits.
 #[tactic(auto, unfolding(usb_model::specs::Endpoint::first_waiting))]
@@ -74,6 +78,22 @@ fn first_reason(
     answer_reason(ep, endpoint, item, answer_end(size, endpoint, item))
 }
 
+/// Why no handle holds an endpoint.
+fn unheld(setup: &Setup, dev: DeviceNo, ep: EpAddr) -> Idleness
+    ensures { result ≡ unheld setup.now dev ep (is_device setup.now dev) (interface_of setup.now dev ep) }
+{
+    if !setup.is_device(dev) {
+        return Idleness::NoDevice { dev };
+    }
+    match setup.interface_of(dev, ep) {
+        None => {
+            let list = EndpointList::of(setup.endpoints_of(dev));
+            Idleness::NoEndpoint { dev, ep, list }
+        }
+        Some(_) => Idleness::NoHolder { dev, ep },
+    }
+}
+
 /// What is to say of a device that answers one packet.
 #[tactic(auto, unfolding(crate::specs::Turns::serve_reason, crate::specs::Turns::held_reason))]
 pub(crate) fn serve_reason(
@@ -85,7 +105,7 @@ pub(crate) fn serve_reason(
     ensures { result ≡ serve_reason setup.now (world_of setup.now system.now) dev ep }
 {
     if system.holder(setup, dev, ep).is_none() {
-        return Some(Reason::Idle(Idleness::NoHolder { dev, ep }));
+        return Some(Reason::Idle(unheld(setup, dev, ep)));
     }
     let endpoint = system.endpoints.get(dev, ep.address());
     let size = setup.packet_size_of(dev, ep);
@@ -134,6 +154,20 @@ pub(crate) fn deliver_reason(setup: &Setup, system: &System) -> Option<Reason>
     }
 }
 
+/// What a result tells its callback.
+fn outcome_of(ended: &TransferResult) -> CalledWith
+    ensures { result ≡ outcome_of ended.now }
+{
+    let request = &ended.request;
+    let reads = matches!(request.body, Body::In(_));
+    CalledWith {
+        status: ended.status,
+        moved: ended.actual as usize,
+        bytes: request.body.length(),
+        short_not_ok: reads && request.is_short_not_ok(),
+    }
+}
+
 /// What is to say of the oldest result.
 #[tactic(auto, unfolding(crate::specs::Turns::take_reason))]
 pub(crate) fn take_reason(system: &System) -> Option<Reason>
@@ -141,6 +175,6 @@ pub(crate) fn take_reason(system: &System) -> Option<Reason>
 {
     match system.results.as_slice() {
         [] => Some(Reason::Idle(Idleness::NoResult)),
-        [first, ..] => Some(Reason::Called(first.piece.status)),
+        [first, ..] => Some(Reason::Called(outcome_of(&first.piece))),
     }
 }

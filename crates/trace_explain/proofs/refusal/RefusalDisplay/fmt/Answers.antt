@@ -1,9 +1,0 @@
--- What is written is the text of the variant.
-use Rattle.std.proofs.Common.{ap, sym}
-use Rattle.std.proofs.Output.{has_written_of_eq}
-use Rattle.trace_explain.specs.Text.{refusal_text}
-use Rattle.trace_explain.proofs.refusal.RefusalDisplay.fmt.Goals as goal
-
-pub returns-in-HeldElsewhere-clause-writes : goal.returns-in-HeldElsewhere-clause-writes
-returns-in-HeldElsewhere-clause-writes g c = λ plain ok.
-    has_written_of_eq _ _ _ _ _ (ap refusal_text (sym c.in-HeldElsewhere.is)) (c.write-in-HeldElsewhere.ensures.writes plain ok)
