@@ -26,6 +26,7 @@ test:
 	tools/rows.py check
 	tools/layers.py check
 	tools/pages.py check
+	tools/tests.py check
 	tools/c_header.py check
 	tools/times.py check
 	@RT_JOBS=$$(nproc) tools/progress.py proofs test -- rt ci

@@ -106,10 +106,10 @@ def page():
     uses, lines = crates(), [
         "# Layers",
         "",
-        "Made by tools/layers.py from what each crate says of itself; its promise, its files and its contracts stand in the head of its",
-        "lib.rt. [REFINEMENT.md](REFINEMENT.md) says how the layers of the core hang together, [DECISIONS.md](DECISIONS.md) why a crate is one.",
+        "Made by tools/layers.py from the head of each crate's lib.rt, which has its promise, its files and its contracts.",
+        "[REFINEMENT.md](REFINEMENT.md) says how the layers of the core are tied together, [DECISIONS.md](DECISIONS.md) why a crate is one.",
         "",
-        "What ships is the library for C (with c/usb), that for Rattle, and `usbtrace`; the last column says which of them has a crate.",
+        "Three things ship: the library for C (with c/usb), the library for Rattle, and `usbtrace`; the last column says which of them a crate is in.",
         "A transfer goes down, and its result comes up:",
         "",
         *PICTURE,

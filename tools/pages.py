@@ -4,9 +4,10 @@
 README.md has at most 70 lines. Its first commands are `make run` and `make test`; its scenario is a file of scenarios/, which the gate
 tests; its devices, test in Python and output are those of c/example, which c_test runs; its lines of Rattle stand in crates/example_first.
 docs/SCENARIOS.md has in front of each picture the worked row of that picture, with what it prints. docs/DEVICES.md has the devices of
-c/example, docs/PYTHON.md its tests and a device of python/devices, docs/RATTLE.md the code of crates/example_first. docs/README.md lists each page of docs/.
-docs/FROM_LIBUSB.md has a row for each function of c/include/libusb.h. Each link leads to a file and a heading; each page, call and file of
-code that is named is there."""
+c/example, docs/PYTHON.md its tests and a device of python/devices, docs/RATTLE.md the code of crates/example_first. docs/README.md lists
+each page of docs/. docs/FROM_LIBUSB.md has a row for each function of c/include/libusb.h. Each link leads to a file and a heading; each page,
+call, file and definition that is named is there. Prose fits into its columns, and counts nothing that a tool knows: crates, rows, scenes,
+wrong bodies, laws."""
 import pathlib
 import re
 import sys
@@ -17,8 +18,13 @@ DOCS = ROOT / "docs"
 EXAMPLE = ROOT / "c" / "example"
 DRIVER = ROOT / "crates" / "example_first" / "src" / "meter.rt"
 HEADER = ROOT / "c" / "include" / "libusb.h"
-PAGES = [ROOT / "README.md", ROOT / "SECURITY.md", *sorted(DOCS.glob("*.md")), ROOT / "rows" / "README.md"]
-MOST_LINES = 70
+PAGES = [*(ROOT / it for it in ("README.md", "SECURITY.md", "CHANGELOG.md")), *sorted(DOCS.glob("*.md")), ROOT / "rows" / "README.md"]
+MOST_LINES, MOST_COLUMNS = 70, 145
+NUMBER = r"(?:\d[\d,]*|two|three|four|five|six|seven|eight|nine|ten|eleven|twelve|twenty|thirty|forty|fifty|hundred|dozen)"
+COUNT = re.compile(rf"\b{NUMBER} (?:worked rows|rows|crates|wrong bodies|wrong definitions|scenes|clients|laws)\b", re.IGNORECASE)
+# Names of specs, one or several behind `specs/`, and such as MODEL.md has them behind a rule's name.
+SPECS = re.compile(r"\bspecs/([A-Z][\w/]*(?:(?:, and |, | and | or )[A-Z][\w/]*)*)")
+PLACED = re.compile(r"^\*\*[^*]+\*\*[^.(]*\(([^)]*)\)", re.MULTILINE)
 
 
 def blocks(text: str) -> list[list[str]]:
@@ -170,13 +176,54 @@ def name_faults() -> Iterator[str]:
             yield f"{page.relative_to(ROOT)} names {name}, which isn't there"
 
 
+def spec_faults() -> Iterator[str]:
+    """Definitions' files that a page names, as `specs/Holders`, and MODEL.md as `(World.Due)`, and that aren't there."""
+    known = {it.relative_to(it.parents[-1]).as_posix() for it in ROOT.glob("crates/*/specs/**/*.antt")}
+    places = {it.partition("/specs/")[2].removesuffix(".antt") for it in known}
+    names = {it.rpartition("/")[2] for it in places}
+    for page in PAGES:
+        for found in SPECS.findall(page.read_text()):
+            for name in re.split(r", and |, | and | or ", found):
+                if name not in places and name not in names:
+                    yield f"{page.relative_to(ROOT)} names specs/{name}, which isn't there"
+    for found in PLACED.findall((DOCS / "MODEL.md").read_text()):
+        for name in re.findall(r"(?<![\w`/])[A-Z]\w+(?:\.[A-Z]\w+)?(?![\w`])", found):
+            if name.replace(".", "/") not in places:
+                yield f"docs/MODEL.md names {name}, and no crate has such a file of specs/"
+
+
+def file_faults() -> Iterator[str]:
+    """Files of C and Python that docs/CONTRIBUTING.md names and that aren't there."""
+    known = {it.name for top in ("c", "bench", "python", "tools") for it in (ROOT / top).rglob("*.*")}
+    for name in sorted(set(re.findall(r"\b([a-z_]+\.(?:c|h|py|toml|json|txt))\b", (DOCS / "CONTRIBUTING.md").read_text())) - known):
+        if not (ROOT / name).exists() and not (ROOT / "rows" / name).exists():
+            yield f"docs/CONTRIBUTING.md names {name}, which isn't there"
+
+
+def prose(page: pathlib.Path) -> Iterator[tuple[int, str]]:
+    """The lines of a page that are no table, heading, picture or indented block, each with its number."""
+    for number, line in enumerate(page.read_text().splitlines(), 1):
+        if not line.startswith(("|", "#", "![", "    ")):
+            yield number, line
+
+
+def prose_faults() -> Iterator[str]:
+    """Lines that are too wide, and counts of what a tool knows."""
+    for page in PAGES:
+        for number, line in prose(page):
+            if len(line) > MOST_COLUMNS:
+                yield f"{page.relative_to(ROOT)}:{number} has {len(line)} columns, {MOST_COLUMNS} at most"
+            for count in COUNT.findall(line):
+                yield f"{page.relative_to(ROOT)}:{number} counts by hand: {count}"
+
+
 def main(words: Sequence[str]) -> int:
     """The status."""
     if list(words) != ["check"]:
         print(__doc__)
         return 2
     faults = [*readme_faults(), *scenario_faults(), *device_faults(), *example_faults(), *list_faults(), *function_faults()]
-    faults += [*link_faults(), *name_faults()]
+    faults += [*link_faults(), *name_faults(), *spec_faults(), *file_faults(), *prose_faults()]
     for fault in faults:
         print(fault)
     if not faults:

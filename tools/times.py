@@ -109,7 +109,7 @@ def page() -> str:
     out = [
         "# How long it takes",
         "",
-        f"Measured on {known['day']}, on {known['machine']}. Made by `tools/times.py take`; the commands tell an estimate of their own.",
+        f"Measured on {known['day']}, on {known['machine']}. Made by `tools/times.py take`; each command prints an estimate of its own.",
         "",
         "## Commands, from a fresh clone",
         "",
@@ -127,14 +127,14 @@ def page() -> str:
     unmeasured = [f"`{name}`" for name in uses if not table.get(name, {}).get("proof")]
     out += [
         "",
-        "What proves crates takes at least so many minutes of two or of four processors, computed from the minutes of the crates. Where",
-        "other work runs on the machine, a proof takes up to twice its processor time. What was built or proved is kept: a second run of",
-        "`make test` takes some minutes, for its tests and programs, and the others but `make c-test` take no time.",
-        *([""] + textwrap.wrap(f"Proofs that aren't measured, and count as nothing: {', '.join(unmeasured)}.", 138) if unmeasured else []),
+        "For a command that proves crates these are the least minutes on two and on four processors, computed from the minutes of the",
+        "crates. With other work on the machine a proof takes up to twice its processor time. What was built or proved is kept: a second run",
+        "of `make test` takes some minutes, for its tests and programs; the others, except `make c-test`, take no time.",
+        *([""] + textwrap.wrap(f"Proofs that weren't measured, and count as nothing: {', '.join(unmeasured)}.", 138) if unmeasured else []),
         "",
         "## Proofs, crate by crate",
         "",
-        "Processor minutes, the dearest crate first; crates of less than a minute are left out.",
+        "Processor minutes, the most expensive crate first; crates of less than a minute are left out.",
         "",
         "| crate | proof | tests | wrong bodies |",
         "|---|---|---|---|",

@@ -1,6 +1,6 @@
 #!/usr/bin/env python3
 """The wrong bodies that the gate doesn't try, for its time: tools/wrong_bodies/CRATE/NAME.edit, in the form of a crate's
-must-fail/NAME.edit.
+must-fail/NAME.edit. A line `rule: NAME` in front names a rule of the model that it breaks (tools/tests.py).
 
     tools/wrong_bodies.py fit             says which of them fit their files no more; seconds, and the gate asks it
     tools/wrong_bodies.py try [CRATE ..]  has the prover refuse each, in a copy of the repository beside it: half a minute

@@ -15,7 +15,9 @@ BIN = ROOT / "bin"
 CORE = re.compile(rb"tirnouch, (\w+) core\0")
 UNITS = re.compile(r"version = \{ (\d+), (\d+), (\d+),")
 OLD = "built of other sources than these"
-HEADING = re.compile(r"^## (\d{4})-(\d\d)-(\d\d), (.+)$", re.M)
+# The day that CHANGELOG.md is of, and its headings.
+DAY = re.compile(r"^As of (\d{4})-(\d\d)-(\d\d)\.", re.M)
+HEADING = re.compile(r"^### (.+)$", re.M)
 
 
 class Fault(Exception):
@@ -75,21 +77,21 @@ def machine() -> str:
 
 
 def changes() -> List[str]:
-    """The headings of CHANGELOG.md, without their dates, newest first."""
-    return [it.group(4) for it in HEADING.finditer((ROOT / "CHANGELOG.md").read_text())]
+    """The headings of CHANGELOG.md: what the version has."""
+    return HEADING.findall((ROOT / "CHANGELOG.md").read_text())
 
 
 def moment() -> int:
-    """The time that files of an archive have: SOURCE_DATE_EPOCH, else the newest day of CHANGELOG.md."""
+    """The time that files of an archive have: SOURCE_DATE_EPOCH, else the day that CHANGELOG.md is of."""
     said = os.environ.get("SOURCE_DATE_EPOCH")
     if said is not None:
         if not re.fullmatch(r"\d{1,10}", said):
             raise Fault(f"SOURCE_DATE_EPOCH is {said!r}: it is to be a number of seconds since 1970")
         return int(said)
-    found = HEADING.search((ROOT / "CHANGELOG.md").read_text())
+    found = DAY.search((ROOT / "CHANGELOG.md").read_text())
     if not found:
-        raise Fault("CHANGELOG.md has no heading with a day, as ## 2026-11-28, what changed")
-    year, month, day = (int(it) for it in found.groups()[:3])
+        raise Fault("CHANGELOG.md says no day, as `As of 2026-11-28.`")
+    year, month, day = (int(it) for it in found.groups())
     return int(datetime.datetime(year, month, day, tzinfo=datetime.timezone.utc).timestamp())
 
 
