@@ -84,10 +84,10 @@ int core_call(struct core *core, enum tirnouch_verb verb, int name, uint8_t a, u
 void trace_submission(struct transfer *transfer, int length, uint8_t flags, int answer);
 struct rest core_rest(const struct pipe *pipe);
 bool core_serves(const struct pipe *pipe);
-bool core_serve(struct pipe *pipe, uint32_t most, struct tirnouch_told *told);
+bool core_serve(struct pipe *pipe, uint32_t most, struct tirnouch_reply *reply);
 bool core_settle_in(struct core *core, uint32_t most);
 bool core_settle(uint32_t most);
-struct transfer *core_take(struct core *core, struct tirnouch_told *told);
+struct transfer *core_take(struct core *core, struct tirnouch_result *result);
 void trace_feed(const struct pipe *pipe, uint8_t kind, const uint8_t *bytes, int count);
 
 /* claims.c */
@@ -106,7 +106,7 @@ void count_withdrawn(struct pipe *pipe, enum libusb_transfer_status status, int 
 
 /* tallies.c: how often a device was asked for what its answers wait for */
 int learn_tallies(struct device *device);
-struct meant meant_by(const struct tirnouch_told *told);
+struct meant meant_by(const struct tirnouch_gate *gate);
 void tally_request(struct device *device, const uint8_t *setup);
 uint64_t tallied(const struct device *device, struct meant meant);
 void tally_anew(struct device *device);

@@ -170,11 +170,11 @@ static inline int core_submit(struct transfer *transfer, int length, uint8_t fla
     uint64_t payload = (uint64_t)(uintptr_t)transfer;
     bool lends = length && is_in(pipe->ep);
     struct tirnouch_memory memory = { .at = at, .len = (size_t)length };
-    struct tirnouch_told told;
-    int answer = lends ? tirnouch_submit_in(core, name, pipe->ep, pipe->kind, flags, timeout, &memory, payload, &told)
-                       : tirnouch_submit(core, name, pipe->ep, pipe->kind, flags, timeout, 0, at, (size_t)length, payload, &told);
+    struct tirnouch_reply reply;
+    int answer = lends ? tirnouch_submit_in(core, name, pipe->ep, pipe->kind, flags, timeout, &memory, payload, &reply)
+                       : tirnouch_submit(core, name, pipe->ep, pipe->kind, flags, timeout, 0, at, (size_t)length, payload, &reply);
     if (!answer) {
-        transfer->number = told.n;
+        transfer->number = reply.number;
         transfer->lent = lends ? at : process.nowhere;
     }
     if (process.bus.is_traced)
@@ -184,9 +184,9 @@ static inline int core_submit(struct transfer *transfer, int length, uint8_t fla
 
 /* The transfer of a result. What it lent is the program's again. The core's contract has the bytes that stand in the memory which comes
  * back, but not its address; so it is asked here, the one place that each result comes by. */
-static inline struct transfer *transfer_of(const struct tirnouch_told *told, const struct tirnouch_memory *back)
+static inline struct transfer *transfer_of(const struct tirnouch_result *result, const struct tirnouch_memory *back)
 {
-    struct transfer *transfer = (struct transfer *)(uintptr_t)told->payload;
+    struct transfer *transfer = (struct transfer *)(uintptr_t)result->payload;
     if (back->at != transfer->lent)
         end_for_memory();
     return transfer;
@@ -194,11 +194,11 @@ static inline struct transfer *transfer_of(const struct tirnouch_told *told, con
 
 /* In one call, which no trace has: a device answers packets at an endpoint, what is to be done behind them is done, and the oldest
  * result goes out. Its transfer, or NULL where there is none. */
-static inline struct transfer *core_turn(const struct pipe *pipe, struct tirnouch_told *told)
+static inline struct transfer *core_turn(const struct pipe *pipe, struct tirnouch_result *result)
 {
     struct tirnouch_memory back = no_memory();
-    int answer = tirnouch_turn(&pipe->core->slot, pipe->number, pipe->ep, ALL, ALL, &back, told);
-    return answer == 1 ? transfer_of(told, &back) : NULL;
+    int answer = tirnouch_turn(&pipe->core->slot, pipe->number, pipe->ep, ALL, ALL, &back, result);
+    return answer == 1 ? transfer_of(result, &back) : NULL;
 }
 
 #endif

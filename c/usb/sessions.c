@@ -25,7 +25,7 @@ static void number_alone(int there[DEVICES], int device, int number)
 /* With the scripts of the device's text, or what is left of them in its core. */
 static int make_session(const struct device *device, bool rests, struct session *made)
 {
-    struct tirnouch_told told = { 0 };
+    struct tirnouch_complaint complaint;
     int there[DEVICES];
     *made = (struct session){ .text = { .length = 0 } };
     number_alone(there, device->number, 0);
@@ -33,7 +33,7 @@ static int make_session(const struct device *device, bool rests, struct session 
     int r = made->text.failed ? LIBUSB_ERROR_NO_MEM : 0;
     made->text.length = without_expected(made->text.at, made->text.length);
     if (!r)
-        r = tirnouch_create(&made->slot, (const uint8_t *)made->text.at, made->text.length, &told);
+        r = tirnouch_create(&made->slot, (const uint8_t *)made->text.at, made->text.length, &complaint);
     return r;
 }
 
