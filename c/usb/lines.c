@@ -32,8 +32,20 @@ static void activate(struct pipe *pipe)
     pipe->is_active = true;
 }
 
+static int left_of(struct transfer *transfer)
+{
+    return public_of(transfer)->length - transfer->moved;
+}
+
+static bool may_go(const struct pipe *pipe, struct transfer *transfer)
+{
+    if (pipe->cut && pipe->cut != transfer)
+        return false;
+    return !pipe->in_core || (pipe->in_core < PLACES && left_of(transfer) <= pipe->most);
+}
+
 /* Its next piece goes into the core. */
-int submit_piece(struct transfer *transfer)
+static int submit_piece(struct transfer *transfer)
 {
     struct pipe *pipe = transfer->pipe;
     int left = left_of(transfer);
@@ -58,6 +70,18 @@ void queue_up(struct transfer *transfer)
     transfer->stage = QUEUED;
     join(&transfer->pipe->queue, transfer);
     activate(transfer->pipe);
+}
+
+/* Into the core, or behind those that wait. */
+int submit_at_endpoint(struct transfer *transfer)
+{
+    if (!transfer->pipe->queue.first && may_go(transfer->pipe, transfer)) {
+        int r = submit_piece(transfer);
+        if (r != LIBUSB_ERROR_BUSY)
+            return r;
+    }
+    queue_up(transfer);
+    return 0;
 }
 
 /* Behind a halt by the program's own request; whether one ended. */

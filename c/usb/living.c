@@ -138,7 +138,7 @@ bool may_be_asked(const struct pipe *pipe)
 }
 
 /* Requests, and endpoints where a packet waits for that. */
-uint64_t next_ask_of_all(void)
+static uint64_t next_ask_of_all(void)
 {
     struct bus *bus = &process.bus;
     uint64_t moment = bus->controls.first ? bus->again : 0;
@@ -148,6 +148,12 @@ uint64_t next_ask_of_all(void)
             moment = pipe->later;
     }
     return moment;
+}
+
+/* When a device is to be asked again; 0 for never. */
+uint64_t next_ask(void)
+{
+    return process.bus.own ? next_ask_of_all() : process.bus.controls.first ? process.bus.again : 0;
 }
 
 void ask_at_once(struct device *device)
