@@ -17,7 +17,10 @@
 static const char device[] = "device 0 0902190001010080320904000001ff00000007058102080000\n";
 
 static struct tirnouch_slot slot;
-static struct tirnouch_told told;
+static struct tirnouch_complaint complaint;
+static struct tirnouch_reply reply;
+static struct tirnouch_progress progress;
+static struct tirnouch_result result;
 
 /* Memory of no bytes, which has an address too. */
 static uint8_t nowhere[1];
@@ -44,16 +47,16 @@ static char *text_of(size_t answers)
 static void must(int32_t answer, const char *what)
 {
     if (answer < 0) {
-        fprintf(stderr, "%s: %" PRId32 ", line %" PRIu64 "\n", what, answer, told.n);
+        fprintf(stderr, "%s: %" PRId32 ", line %" PRIu64 "\n", what, answer, complaint.line);
         exit(1);
     }
 }
 
 static void begin(const char *text)
 {
-    must(tirnouch_create(&slot, (const uint8_t *)text, strlen(text), &told), "create");
-    must(tirnouch_call(&slot, TIRNOUCH_OPEN, 1, 0, 0, &told), "open");
-    must(tirnouch_call(&slot, TIRNOUCH_CLAIM, 1, 0, 0, &told), "claim");
+    must(tirnouch_create(&slot, (const uint8_t *)text, strlen(text), &complaint), "create");
+    must(tirnouch_call(&slot, TIRNOUCH_OPEN, 1, 0, 0, &reply), "open");
+    must(tirnouch_call(&slot, TIRNOUCH_CLAIM, 1, 0, 0, &reply), "claim");
 }
 
 /* One read, whose bytes are fetched; what came out. */
@@ -61,12 +64,12 @@ static uint64_t read_8(uint64_t payload)
 {
     uint8_t data[8];
     struct tirnouch_memory back = { .at = nowhere };
-    must(tirnouch_submit(&slot, 1, 0x81, 2, 0, 0, 8, (const uint8_t *)"", 0, payload, &told), "submit");
-    must(tirnouch_serve(&slot, 0, 0x81, 4, &told), "serve");
-    must(tirnouch_settle(&slot, 0, 16, &told), "settle");
-    must(tirnouch_take(&slot, &back, &told), "take");
+    must(tirnouch_submit(&slot, 1, 0x81, 2, 0, 0, 8, (const uint8_t *)"", 0, payload, &reply), "submit");
+    must(tirnouch_serve(&slot, 0, 0x81, 4, &reply), "serve");
+    must(tirnouch_settle(&slot, 0, 16, &progress), "settle");
+    must(tirnouch_take(&slot, &back, &result), "take");
     must(tirnouch_fetch(&slot, data, sizeof data), "fetch");
-    return told.payload + told.amount + data[7];
+    return result.payload + result.actual_length + data[7];
 }
 
 /* The same in two calls, straight into memory that is lent. */
@@ -74,9 +77,9 @@ static uint64_t read_8_in_turns(uint64_t payload)
 {
     uint8_t data[8];
     struct tirnouch_memory memory = { .at = data, .len = sizeof data }, back = { .at = nowhere };
-    must(tirnouch_submit_in(&slot, 1, 0x81, 2, 0, 0, &memory, payload, &told), "submit");
-    must(tirnouch_turn(&slot, 0, 0x81, 4, 16, &back, &told), "turn");
-    return told.payload + told.amount + data[7];
+    must(tirnouch_submit_in(&slot, 1, 0x81, 2, 0, 0, &memory, payload, &reply), "submit");
+    must(tirnouch_turn(&slot, 0, 0x81, 4, 16, &back, &result), "turn");
+    return result.payload + result.actual_length + data[7];
 }
 
 /* The least of `rounds` rounds, in each of which the device gives all its answers; that they are made new isn't measured. */
@@ -93,7 +96,7 @@ static double transfers(const char *text, size_t rounds, uint64_t (*read)(uint64
         if (sum != (uint64_t)ANSWERS * 16 + (uint64_t)ANSWERS * (ANSWERS - 1) / 2)
             must(-1, "sum");
         least = took < least ? took : least;
-        must(tirnouch_call(&slot, TIRNOUCH_RESET, 1, 0, 0, &told), "reset");
+        must(tirnouch_call(&slot, TIRNOUCH_RESET, 1, 0, 0, &reply), "reset");
     }
     tirnouch_destroy(&slot);
     return least / ANSWERS;
@@ -102,7 +105,7 @@ static double transfers(const char *text, size_t rounds, uint64_t (*read)(uint64
 static double creation(const char *text)
 {
     double start = now();
-    must(tirnouch_create(&slot, (const uint8_t *)text, strlen(text), &told), "create");
+    must(tirnouch_create(&slot, (const uint8_t *)text, strlen(text), &complaint), "create");
     double took = now() - start;
     return took;
 }

@@ -13,16 +13,17 @@ import textwrap
 
 ROOT = pathlib.Path(__file__).resolve().parent.parent
 CRATE = ROOT / "crates" / "tirnouch_c" / "src"
-LENT = ROOT / "crates" / "tirnouch_c" / "src" / "lent_memory.rt"
+# The files that have the exports, in the order of the header.
+EXPORTS = ("exports.rt", "questions.rt")
 HEADER = ROOT / "c" / "include" / "tirnouch_core.h"
 WIDTH = 112
-NUMBERS = {"u8": "uint8_t", "u32": "uint32_t", "u64": "uint64_t", "i32": "int32_t", "usize": "size_t", "bool": "bool"}
+NUMBERS = {"u8": "uint8_t", "u16": "uint16_t", "u32": "uint32_t", "u64": "uint64_t", "i32": "int32_t", "usize": "size_t", "bool": "bool"}
 FIELDS = {**NUMBERS, "*mut u8": "uint8_t *"}
 HEAD = """/* Tirnouch's core, as the static library tirnouch_c has it: every step is proved, and so is what each function answers
  * (crates/tirnouch_c). Made by tools/c_header.py.
  *
  * A slot begins as all zeros, and is passed by its address: one call at a time, from any thread. Buffers are as long as said,
- * and have an address also where they are empty; they don't overlap. `told` has what a call told; where it told nothing it is as
+ * and have an address also where they are empty; they don't overlap. A struct that a call doesn't fill stays as
  * it was. A slot without a session answers TIRNOUCH_NO_SESSION. */
 #ifndef TIRNOUCH_CORE_H
 #define TIRNOUCH_CORE_H
@@ -36,47 +37,44 @@ extern "C" {
 #endif
 
 #define TIRNOUCH_NO_SESSION (-99)
-
-/* The verbs of tirnouch_call. */
-enum tirnouch_verb {
-    TIRNOUCH_OPEN = 0, TIRNOUCH_CLOSE = 1, TIRNOUCH_CLAIM = 2, TIRNOUCH_RELEASE = 3, TIRNOUCH_RESET = 4,
-    TIRNOUCH_CLEAR_HALT = 5, TIRNOUCH_CANCEL = 6, TIRNOUCH_EXPIRE = 7, TIRNOUCH_UNPLUG = 11
-};
-
-/* What is told: the field `kind`. */
-enum tirnouch_kind {
-    TIRNOUCH_DONE = 0, TIRNOUCH_NUMBER = 1, TIRNOUCH_REFUSED = 2, TIRNOUCH_IDLE = 3, TIRNOUCH_NAK = 4,
-    TIRNOUCH_MOVED = 5, TIRNOUCH_ENDED = 6, TIRNOUCH_RAN = 7, TIRNOUCH_FINISHED = 8, TIRNOUCH_PAUSED = 9,
-    TIRNOUCH_SETTLED = 10, TIRNOUCH_CALLED = 11
-};
-
-/* Completion codes (xHCI 1.2, 6.4.5), in `status` of TIRNOUCH_ENDED. */
-enum tirnouch_code {
-    TIRNOUCH_CODE_SUCCESS = 1, TIRNOUCH_CODE_BABBLE = 3, TIRNOUCH_CODE_TRANSACTION_ERROR = 4, TIRNOUCH_CODE_STALL = 6,
-    TIRNOUCH_CODE_SHORT_PACKET = 13
-};
-
-/* What waits, whoever it is of: the bits of `status` of tirnouch_look and tirnouch_pending. */
-enum tirnouch_waiting { TIRNOUCH_WAITS_ORDER = 1, TIRNOUCH_WAITS_EVENT = 2, TIRNOUCH_WAITS_RESULT = 4 };
-
-/* An answer: `kind` of tirnouch_feed. */
-enum tirnouch_answer {
-    TIRNOUCH_ANSWER_PACKET = 0, TIRNOUCH_ANSWER_TAKEN = 1, TIRNOUCH_ANSWER_NOT_READY = 2, TIRNOUCH_ANSWER_STALL = 3,
-    TIRNOUCH_ANSWER_BROKEN = 4
-};
-
-/* Whether a device is asked for a packet: `kind` of tirnouch_offer. */
-enum tirnouch_offered { TIRNOUCH_OFFER_ANSWERED = 0, TIRNOUCH_OFFER_ASKED = 1, TIRNOUCH_OFFER_NONE = 3 };
-
-/* What a host has to hold: `kind` of tirnouch_needs. */
-enum tirnouch_needed { TIRNOUCH_NEEDS_NOTHING = 0, TIRNOUCH_NEEDS_INTERFACE = 1, TIRNOUCH_NEEDS_ENDPOINT = 2 };
-
-/* What the text says of a device: `what` of tirnouch_tell. */
-enum tirnouch_said { TIRNOUCH_SAYS_SPEED = 0, TIRNOUCH_SAYS_DRIVER = 1, TIRNOUCH_SAYS_GATE = 2, TIRNOUCH_SAYS_DEPARTURE = 3 };
-
-/* In `h`: what is told is nobody's. */
+"""
+# Closed sets of numbers: the name of each, what it is, and its members.
+ENUMS = [
+    ("verb", "A step of tirnouch_call.", {
+        "OPEN": 0, "CLOSE": 1, "CLAIM": 2, "RELEASE": 3, "RESET": 4, "CLEAR_HALT": 5, "CANCEL": 6, "EXPIRE": 7, "UNPLUG": 11,
+    }),
+    ("kind", "What came of a step: `kind` of `struct tirnouch_reply`.", {
+        "DONE": 0, "NUMBER": 1, "REFUSED": 2, "IDLE": 3, "NAK": 4, "MOVED": 5, "ENDED": 6, "RAN": 7, "FINISHED": 8, "PAUSED": 9,
+        "SETTLED": 10, "CALLED": 11,
+    }),
+    ("code", "Completion codes (xHCI 1.2, 6.4.5): `code` of TIRNOUCH_ENDED.", {
+        "CODE_SUCCESS": 1, "CODE_BABBLE": 3, "CODE_TRANSACTION_ERROR": 4, "CODE_STALL": 6, "CODE_SHORT_PACKET": 13,
+    }),
+    ("waiting", "What waits, whoever it is of: bits of `waiting` of `struct tirnouch_next` and `struct tirnouch_view`.", {
+        "WAITS_ORDER": 1, "WAITS_EVENT": 2, "WAITS_RESULT": 4,
+    }),
+    ("answer", "An answer of a device: `kind` of tirnouch_feed.", {
+        "ANSWER_PACKET": 0, "ANSWER_TAKEN": 1, "ANSWER_NOT_READY": 2, "ANSWER_STALL": 3, "ANSWER_BROKEN": 4,
+    }),
+    ("need", "What a host has to hold: `kind` of `struct tirnouch_needed`.", {
+        "NEEDS_NOTHING": 0, "NEEDS_INTERFACE": 1, "NEEDS_ENDPOINT": 2,
+    }),
+    ("awaited", "What answers wait for: `awaited` of `struct tirnouch_gate`.", {"AWAITS_ENDPOINT": 0, "AWAITS_REQUESTS": 1}),
+    ("any", "Fields of requests that may be any: bits of `any` of `struct tirnouch_gate`.", {
+        "ANY_TYPE": 1, "ANY_REQUEST": 2, "ANY_VALUE": 4, "ANY_INDEX": 8,
+    }),
+]
+# The structs that C has answers in: each of the crate's, and its name behind `tirnouch_`.
+ANSWERS = {
+    "TextComplaint": "complaint", "StepReply": "reply", "SettleProgress": "progress", "NextWork": "next", "EndpointView": "view", "TakenResult": "result",
+    "PacketOffer": "offer", "ControlResponse": "response", "Needed": "needed", "DeviceFacts": "device", "AnswerGate": "gate",
+    "DeviceDeparture": "departure", "EndpointFacts": "endpoint",
+}
+NOBODY = """
+/* In place of a handle or a device: it is nobody's, or there is none. */
 #define TIRNOUCH_NOBODY 255
-
+"""
+SLOT = """
 /* What holds a session. Its fields are the library's. */
 struct tirnouch_slot {
     void *at;
@@ -129,15 +127,32 @@ def documented(text, pattern):
             docs = []
 
 
-def structure(name, file, kind, more=()):
-    """A struct of a crate as C has it: its documentation, with more behind it, and its fields in their order."""
-    text = file.read_text()
-    docs = next(docs for docs, _ in documented(text, rf"pub struct {kind} \{{"))
-    body = re.search(rf"pub struct {kind} \{{\n(.*?)\n\}}", text, re.S).group(1)
+def enumeration(name, docs, members):
+    """A closed set of numbers as C has it."""
+    words = [f"TIRNOUCH_{it}\0=\0{number}" for it, number in members.items()]
+    line = f"enum tirnouch_{name} {{ " + ", ".join(words) + " };"
+    if len(line) > WIDTH:
+        line = f"enum tirnouch_{name} {{\n" + textwrap.fill(", ".join(words), WIDTH, initial_indent="    ", subsequent_indent="    ") + "\n};"
+    return "\n" + comment([[docs]]) + line.replace("\0", " ") + "\n"
+
+
+def declared(kind):
+    """A struct of the crate: the module that has it, its documentation, and its fields in their order, each with its documentation."""
+    for file in sorted(CRATE.glob("*.rt")):
+        text = file.read_text()
+        for docs, _ in documented(text, rf"pub struct {kind} \{{"):
+            body = re.search(rf"pub struct {kind} \{{\n(.*?)\n\}}", text, re.S).group(1)
+            return file.stem, docs, [(lines, field[1], field[2]) for lines, field in documented(body, r"pub (\w+): ([^,{]+),")]
+    sys.exit(f"tirnouch_c has no struct {kind}")
+
+
+def structure(name, kind, more=()):
+    """A struct of the crate as C has it, with more behind its documentation."""
+    _, docs, fields = declared(kind)
     out = "\n" + comment([docs, *([it] for it in more)]) + f"struct {name} {{\n"
-    for docs, field in documented(body, r"pub (\w+): ([^,{]+),"):
-        given = FIELDS[field.group(2)]
-        out += (comment([docs], "    ") if docs else "") + f"    {given}{'' if given.endswith('*') else ' '}{field.group(1)};\n"
+    for lines, field, number in fields:
+        given = FIELDS[number]
+        out += (comment([lines], "    ") if lines else "") + f"    {given}{'' if given.endswith('*') else ' '}{field};\n"
     return out + "};\n"
 
 
@@ -148,8 +163,8 @@ def parameter(name, kind):
     if kind in NUMBERS:
         return f"{NUMBERS[kind]} {name}"
     shapes = {
+        **{f"&mut {it}": f"struct tirnouch_{word} *{{0}}" for it, word in ANSWERS.items()},
         "&mut Slot": "struct tirnouch_slot *{0}",
-        "&mut Told": "struct tirnouch_told *{0}",
         "&mut LentMemory": "struct tirnouch_memory *{0}",
         "&[u8; 8]": "const uint8_t {0}[8]",
         "&[u8]": "const uint8_t *{0}, size_t {0}_length",
@@ -160,7 +175,7 @@ def parameter(name, kind):
 
 def exports():
     """The prototypes of the exports."""
-    text = (CRATE / "exports.rt").read_text()
+    text = "".join((CRATE / file).read_text() for file in EXPORTS)
     out = ""
     for found in re.finditer(r"((?:^///.*\n)+)#\[unsafe\(no_mangle\)\]\npub extern \"C\" fn (\w+)\(([^)]*)\) -> (\w+)", text, re.M):
         docs = [line[3:].strip() for line in found.group(1).splitlines()]
@@ -174,9 +189,10 @@ def exports():
 
 
 def header():
-    told = structure("tirnouch_told", CRATE / "told.rt", "Told")
-    memory = structure("tirnouch_memory", LENT, "LentMemory", OWNERS)
-    return HEAD + told + memory + exports() + TAIL
+    enums = "".join(enumeration(*it) for it in ENUMS)
+    answers = "".join(structure(f"tirnouch_{word}", kind) for kind, word in ANSWERS.items())
+    memory = structure("tirnouch_memory", "LentMemory", OWNERS)
+    return HEAD + enums + NOBODY + SLOT + memory + answers + exports() + TAIL
 
 
 def main():

@@ -15,6 +15,8 @@ import sys
 import threading
 import time
 
+import c_header
+
 TARGET = "--target=x86_64-unknown-linux-gnu"
 # How often, in seconds, the folder of a build is looked at: what is made there goes away with the build.
 LOOK = 0.002
@@ -24,7 +26,6 @@ LEAST = 1 << 20
 GIVEN = {
     "Global": "alloc",
     "&mut Slot": "&mut slot",
-    "&mut Told": "&mut told",
     "&mut LentMemory": "&mut lent",
     "&[u8; 8]": "&setup",
     "&[u8]": "&setup",
@@ -40,15 +41,13 @@ MAIN = """//! A program that calls each export of `tirnouch_c`, so that they are
 {modules}
 use crate::held::Slot;
 use crate::lent_memory::LentMemory;
-use crate::told::Told;
-use std::io;
+{uses}use std::io;
 use std::ptr::null_mut;
 
 fn main(rt: HostRuntime) -> io::Result<()> {{
     let alloc = rt.alloc();
     let mut slot = Slot::empty();
-    let mut told = Told::nothing();
-    let mut data = [0u8; 8];
+{answers}    let mut data = [0u8; 8];
     let setup = [0u8; 8];
     let mut lent = LentMemory {{ at: null_mut(), len: 0, filled: 0 }};
 {calls}    let _ = slot.into_box(alloc);
@@ -92,7 +91,7 @@ class Watch(threading.Thread):
 
 
 def exports(text):
-    """The exports of exports.rt: the name of each, and the types of its parameters."""
+    """The exports of a file: the name of each, and the types of its parameters."""
     for found in re.finditer(r'#\[unsafe\(no_mangle\)\]\npub extern "C" fn (\w+)\(([^)]*)\)', text):
         parts = [part.strip().rstrip(",") for part in re.split(r",\s*(?![^\[]*\])", found[2])]
         yield found[1], [part.split(": ", 1)[1] for part in parts if part]
@@ -102,12 +101,19 @@ def make_program(crate):
     """Makes the library of a copy of the crate a program."""
     source = crate / "src"
     modules = re.findall(r"^(?:pub )?mod (\w+);", (source / "lib.rt").read_text(), re.M)
+    given = {**GIVEN, **{f"&mut {kind}": f"&mut {word}" for kind, word in c_header.ANSWERS.items()}}
     calls = "".join(
-        f"    let _ = exports::{name}({', '.join(GIVEN.get(kind, '0') for kind in kinds)});\n"
-        for name, kinds in exports((source / "exports.rt").read_text())
+        f"    let _ = {file.removesuffix('.rt')}::{name}({', '.join(given.get(kind, '0') for kind in kinds)});\n"
+        for file in c_header.EXPORTS for name, kinds in exports((source / file).read_text())
+    )
+    found = {kind: c_header.declared(kind) for kind in c_header.ANSWERS}
+    uses = "".join(f"use crate::{module}::{kind};\n" for kind, (module, _, _) in found.items())
+    answers = "".join(
+        f"    let mut {c_header.ANSWERS[kind]} = {kind} {{ {', '.join(f'{name}: 0' for _, name, _ in fields)} }};\n"
+        for kind, (_, _, fields) in found.items()
     )
     (source / "lib.rt").unlink()
-    (source / "main.rt").write_text(MAIN.format(modules="".join(f"mod {it};\n" for it in modules), calls=calls))
+    (source / "main.rt").write_text(MAIN.format(modules="".join(f"mod {it};\n" for it in modules), uses=uses, answers=answers, calls=calls))
     held = (source / "held.rt").read_text()
     for it in SEEN:
         held = held.replace(f"    {it}", f"    pub {it}")
@@ -157,8 +163,8 @@ def end_group(process):
 
 def as_library(text, trust):
     """The text of a module with the exports under C's names, and the program's own `main` hidden, for the linker to drop."""
-    for name in set(re.findall(r'@"tirnouch_c::exports::(tirnouch_\w+)"', text)):
-        text = text.replace(f'@"tirnouch_c::exports::{name}"', f"@{name}")
+    for name in set(re.findall(r'@"(tirnouch_c::(?:exports|questions)::tirnouch_\w+)"', text)):
+        text = text.replace(f'@"{name}"', f"@{name.rsplit('::', 1)[1]}")
     text = re.sub(r"^define internal ([^\n]*@tirnouch_\w+\()", r"define \1", text, flags=re.M)
     text = re.sub(r"^define ([^\n]*@main\()", r"define internal \1", text, flags=re.M)
     text = text.replace(" sanitize_address", "").replace(' "frame-pointer"="all"', "").replace("= { }", "= { nounwind }")

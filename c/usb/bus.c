@@ -28,8 +28,8 @@ static void trace_numbers(const struct desk *desk)
 /* The core of those that are scripted, of which the trace has the devices. */
 static int make_shared(const struct desk *desk, const char *text, size_t length)
 {
-    struct tirnouch_told told = { 0 };
-    int r = tirnouch_create(&process.bus.core.slot, (const uint8_t *)text, length, &told);
+    struct tirnouch_complaint complaint;
+    int r = tirnouch_create(&process.bus.core.slot, (const uint8_t *)text, length, &complaint);
     if (r == LIBUSB_ERROR_INVALID_PARAM) {
         complain(text, length, desk->text, desk->name, desk->name, 0);
         return LIBUSB_ERROR_OTHER;

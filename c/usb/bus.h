@@ -235,7 +235,7 @@ struct libusb_context {
     bool is_blind;                    /* it has no devices (LIBUSB_OPTION_NO_DEVICE_DISCOVERY) */
     int holds;
     int users;                        /* of the default context: how often it was begun */
-    int lockers;                      /* atomic: who holds `waiters`, or is about to; it grows under `process.lock` alone */
+    int lockers;                      /* who holds `waiters`, or is about to */
     int waiting;                      /* for `moved` */
     int closers;                      /* of them those that wait in libusb_close for the handler's callbacks */
     int event;                        /* an eventfd: it ends the handler's sleep, and tells those who poll by themselves */
@@ -244,6 +244,7 @@ struct libusb_context {
     struct hotplug *hotplugs;
     pthread_cond_t moved;             /* with process.lock: a callback returned, or nobody handles events any more; with closers:
                                        * a callback begins, or the handler is back */
+    pthread_cond_t left;              /* with process.lock, once it isn't open: who handled events, or waited for that, doesn't any more */
     pthread_mutex_t waiters;
     pthread_cond_t happened;          /* with `waiters`: a callback returned, or nobody handles events any more */
     struct notice all_notices[DEVICES][2];
@@ -333,7 +334,8 @@ extern struct process {
 
 /* In a device's function this thread has the lock already, and may not wait for it. A call that only reads goes on without it
  * (`lock_to_read`, whose answer is what `unlock_read` needs); one that can answer is refused (`lock_unless_asked`); and where one can't,
- * that is told, and the program ends (`lock`). The latter two are macros for the name of the call. */
+ * that is told, and the program ends (`lock`). The latter two are macros for the name of the call. Each call comes by them, and so they are
+ * inline for its speed; what is done in a device's function is a call. */
 bool is_asked_here(void) __attribute__((cold));
 bool refuse_asked(const char *function) __attribute__((cold));
 void end_for_asked(const char *function) __attribute__((cold));

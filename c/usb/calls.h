@@ -79,20 +79,20 @@ void tell_configurations(struct libusb_context *context);
 void release_context(struct libusb_context *context);
 
 /* core.c: the core's calls, each of which the trace has. A negative answer is libusb's. */
-_Noreturn void end_for_memory(void);
 int core_call(struct core *core, enum tirnouch_verb verb, int name, uint8_t a, uint64_t n);
-void trace_submission(struct transfer *transfer, int length, uint8_t flags, int answer);
+int core_submit(struct transfer *transfer, int length, uint8_t flags);
 struct rest core_rest(const struct pipe *pipe);
 bool core_serves(const struct pipe *pipe);
-bool core_serve(struct pipe *pipe, uint32_t most, struct tirnouch_told *told);
+bool core_serve(struct pipe *pipe, uint32_t most, struct tirnouch_reply *reply);
 bool core_settle_in(struct core *core, uint32_t most);
 bool core_settle(uint32_t most);
-struct transfer *core_take(struct core *core, struct tirnouch_told *told);
+struct transfer *core_take(struct core *core, struct tirnouch_result *result);
+struct transfer *core_turn(const struct pipe *pipe, struct tirnouch_result *result);
 void trace_feed(const struct pipe *pipe, uint8_t kind, const uint8_t *bytes, int count);
 
 /* claims.c */
 int claim(struct libusb_device_handle *handle, int interface);
-int claim_unasked(struct libusb_device_handle *handle, int interface);
+int claim_in_passing(struct libusb_device_handle *handle, int interface);
 void unclaim(struct libusb_device_handle *handle, int interface);
 int name_interface(struct device *device, int interface, int name);
 int make_new(struct device *device, int interface);
@@ -106,13 +106,13 @@ void count_withdrawn(struct pipe *pipe, enum libusb_transfer_status status, int 
 
 /* tallies.c: how often a device was asked for what its answers wait for */
 int learn_tallies(struct device *device);
-struct meant meant_by(const struct tirnouch_told *told);
+struct meant meant_by(const struct tirnouch_gate *gate);
 void tally_request(struct device *device, const uint8_t *setup);
 uint64_t tallied(const struct device *device, struct meant meant);
 void tally_anew(struct device *device);
 
 /* lines.c: from the endpoints' queues into the core, and out of it */
-int submit_piece(struct transfer *transfer);
+int submit_at_endpoint(struct transfer *transfer);
 void queue_up(struct transfer *transfer);
 bool feed(struct pipe *pipe);
 bool reap_one(void);
@@ -141,8 +141,8 @@ int cancel(struct transfer *transfer, enum ask ask);
 bool has_ended(const struct libusb_device_handle *handle);
 void withdraw(struct libusb_device_handle *handle, int interface, bool drops);
 
-/* living.c: when one of the devices that compute is to be asked again; 0 for never */
-uint64_t next_ask_of_all(void);
+/* living.c: when a device is to be asked again; 0 for never */
+uint64_t next_ask(void);
 
 /* control.c */
 int submit_control(struct transfer *transfer);
@@ -170,6 +170,8 @@ void wake_others(const struct libusb_context *context);
 void disturb(struct libusb_context *context);
 void tell_lockers(struct libusb_context *context);
 void wait_for_move(struct libusb_context *context);
+void tell_leaver(struct libusb_context *context);
+void step_down(struct libusb_context *context);
 
 /* pollfds.c */
 void show_readiness(struct libusb_context *context);

@@ -44,17 +44,17 @@ void complain_of(const char *name, const struct line *line, int word, const char
 void complain(const char *text, size_t length, const char *shown, const char *before_name, const char *name, size_t before)
 {
     char why[256] = "";
-    struct tirnouch_told told = { 0 };
-    int count = tirnouch_complain((const uint8_t *)text, length, (uint8_t *)why, sizeof why - 1, &told);
+    struct tirnouch_complaint complaint = { 0 };
+    int count = tirnouch_complain((const uint8_t *)text, length, (uint8_t *)why, sizeof why - 1, &complaint);
     struct line line = { .number = 0 };
     size_t at = 0;
     if (count <= 0) {
         tell_failure("%s: a line isn't one of devices (docs/DEVICES.md), and there is no memory to say which", name);
         return;
     }
-    while (next_line(shown, SIZE_MAX / 2, &at, &line) && line.number < told.n) {
+    while (next_line(shown, SIZE_MAX / 2, &at, &line) && line.number < complaint.line) {
     }
     bool is_before = line.number <= before;
     line.number -= is_before ? 0 : before;
-    complain_of(is_before ? before_name : name, &line, told.status ? (int)told.amount : -1, why);
+    complain_of(is_before ? before_name : name, &line, complaint.has_word ? (int)complaint.word : -1, why);
 }

@@ -26,6 +26,7 @@ static void begin_conditions(struct libusb_context *context)
     pthread_condattr_setclock(&clock, CLOCK_MONOTONIC);
     pthread_cond_init(&context->moved, &clock);
     pthread_cond_init(&context->happened, &clock);
+    pthread_cond_init(&context->left, &clock);
     pthread_condattr_destroy(&clock);
     pthread_mutex_init(&context->waiters, NULL);
 }
@@ -150,18 +151,16 @@ static void leave_list(struct libusb_context *context)
         process.default_context = NULL;
 }
 
-/* Those who handle events leave first; a program's own thread is told to go. */
+/* Those who handle events, or wait for that, leave first. They are told once: the context isn't open any more, and so nobody begins either
+ * anew but by the event lock. Each who leaves says so (`tell_leaver`). */
 static void send_away(struct libusb_context *context)
 {
     if (is_handler(context))
         return;
-    while (context->is_handled || context->waiting || __atomic_load_n(&context->lockers, __ATOMIC_SEQ_CST)) {
-        disturb(context);
-        tell_waiters(context);
-        unlock();
-        usleep(100);
-        lock();
-    }
+    disturb(context);
+    tell_waiters(context);
+    while (context->is_handled || context->waiting || context->lockers)
+        pthread_cond_wait(&context->left, &process.lock);
 }
 
 static void close_handles(struct libusb_context *context)
@@ -191,6 +190,7 @@ void release_context(struct libusb_context *context)
     close(context->event);
     pthread_cond_destroy(&context->moved);
     pthread_cond_destroy(&context->happened);
+    pthread_cond_destroy(&context->left);
     pthread_mutex_destroy(&context->waiters);
     free(context);
 }

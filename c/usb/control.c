@@ -13,12 +13,12 @@
 /* The interface or the endpoint that a request is to must be held. */
 static int hold(struct libusb_device_handle *handle, const uint8_t *setup)
 {
-    struct tirnouch_told told = { 0 };
-    tirnouch_needs(setup, &told);
-    if (told.kind == TIRNOUCH_NEEDS_INTERFACE)
-        return told.n < INTERFACES ? claim_in_passing(handle, (int)told.n) : LIBUSB_ERROR_NOT_FOUND;
-    if (told.kind == TIRNOUCH_NEEDS_ENDPOINT) {
-        const struct pipe *pipe = &handle->device->pipes[place_of(told.ep)];
+    struct tirnouch_needed needed;
+    tirnouch_needs(setup, &needed);
+    if (needed.kind == TIRNOUCH_NEEDS_INTERFACE)
+        return needed.interface < INTERFACES ? claim_in_passing(handle, needed.interface) : LIBUSB_ERROR_NOT_FOUND;
+    if (needed.kind == TIRNOUCH_NEEDS_ENDPOINT) {
+        const struct pipe *pipe = &handle->device->pipes[place_of(needed.endpoint)];
         return pipe->kind ? claim_in_passing(handle, pipe->interface) : LIBUSB_ERROR_NOT_FOUND;
     }
     return 0;
@@ -60,39 +60,39 @@ static bool is_of_device_descriptor(const uint8_t *setup)
 }
 
 /* An answer of the core's in tirnouch.h's numbers. */
-static int answer_by_told(struct device *device, const uint8_t *setup, uint8_t *data, const struct tirnouch_told *told)
+static int answer_by_core(struct device *device, const uint8_t *setup, uint8_t *data, const struct tirnouch_response *response)
 {
-    if (told->status == LIBUSB_TRANSFER_COMPLETED && is_of_device_descriptor(setup) && !told->n && told->amount > 17)
+    if (response->status != LIBUSB_TRANSFER_COMPLETED)
+        return response->status == LIBUSB_TRANSFER_STALL ? TIRNOUCH_STALL : TIRNOUCH_BROKEN;
+    if (!response->by_line && is_of_device_descriptor(setup) && response->actual_length > 17)
         data[17] = device->descriptor[17];
-    if (told->status == LIBUSB_TRANSFER_COMPLETED)
-        return (int)told->amount;
-    return told->status == LIBUSB_TRANSFER_STALL ? TIRNOUCH_STALL : TIRNOUCH_BROKEN;
+    return (int)response->actual_length;
 }
 
-/* How many bytes moved, or one of tirnouch.h's answers. Where no line of the text fits a request, `told.n` is 0. */
+/* How many bytes moved, or one of tirnouch.h's answers. */
 static int answer_by_text(struct transfer *transfer, const uint8_t *setup, uint8_t *data, int length)
 {
     struct device *device = transfer->handle->device;
-    struct tirnouch_told told = { 0 };
+    struct tirnouch_response response = { 0 };
     while (transfer->naks < MOST_NAKS) {
-        int r = tirnouch_request(&device->core->slot, device->number_there, setup, data, (size_t)length, &told);
+        int r = tirnouch_request(&device->core->slot, device->number_there, setup, data, (size_t)length, &response);
         if (r < 0)
             return r == LIBUSB_ERROR_NO_MEM ? TIRNOUCH_BROKEN : TIRNOUCH_STALL;
         if (device->judged)
             judge_request(device, setup, data);
-        if (told.kind == TIRNOUCH_CALLED)
+        if (response.is_ready)
             break;
         transfer->naks++;
     }
-    if (told.kind != TIRNOUCH_CALLED)
+    if (!response.is_ready)
         return TIRNOUCH_NOT_READY;
-    if (!told.n && is_standard(device, setup))
+    if (!response.by_line && is_standard(device, setup))
         return answer_standard(device, setup, data);
-    if (!told.n && told.status == LIBUSB_TRANSFER_STALL)
+    if (!response.by_line && response.status == LIBUSB_TRANSFER_STALL)
         note(transfer->context, LIBUSB_LOG_LEVEL_INFO,
              "device %d stalls request %02x %02x %04x %04x of %d bytes: no line of its text fits it", device->number, setup[0], setup[1],
              two_bytes(setup + 2), two_bytes(setup + 4), length);
-    return answer_by_told(device, setup, data, &told);
+    return answer_by_core(device, setup, data, &response);
 }
 
 /* Whoever handles events looks again at this moment, or before. */

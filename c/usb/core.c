@@ -4,13 +4,6 @@
 #include <stdio.h>
 #include <stdlib.h>
 
-/* The core gave back memory that isn't the transfer's: nothing is sure any more. */
-void end_for_memory(void)
-{
-    fputs("libusb: error: a result came back with memory of another transfer: this is a fault of Tirnouch's\n", stderr);
-    abort();
-}
-
 static const char *const verbs[] = {
     [TIRNOUCH_OPEN] = "open ", [TIRNOUCH_CLOSE] = "close ", [TIRNOUCH_CLAIM] = "claim ", [TIRNOUCH_RELEASE] = "release ",
     [TIRNOUCH_RESET] = "reset ", [TIRNOUCH_CLEAR_HALT] = "clear ", [TIRNOUCH_CANCEL] = "cancel ", [TIRNOUCH_EXPIRE] = "expire ",
@@ -47,8 +40,8 @@ static void trace_call(enum tirnouch_verb verb, int name, uint8_t a, uint64_t n)
 
 int core_call(struct core *core, enum tirnouch_verb verb, int name, uint8_t a, uint64_t n)
 {
-    struct tirnouch_told told = { 0 };
-    int answer = tirnouch_call(&core->slot, (uint8_t)verb, (uint8_t)name, a, n, &told);
+    struct tirnouch_reply reply;
+    int answer = tirnouch_call(&core->slot, (uint8_t)verb, (uint8_t)name, a, n, &reply);
     if (process.bus.is_traced) {
         trace_to(core);
         trace_call(verb, name, a, n);
@@ -80,7 +73,7 @@ static void trace_request(struct transfer *transfer, int length, uint8_t flags)
     trace_text(transfer->deadline ? " timeout=1\n" : "\n");
 }
 
-void trace_submission(struct transfer *transfer, int length, uint8_t flags, int answer)
+static void trace_submission(struct transfer *transfer, int length, uint8_t flags, int answer)
 {
     struct core *core = transfer->pipe->core;
     if (answer == LIBUSB_ERROR_NO_MEM) {
@@ -99,30 +92,53 @@ void trace_submission(struct transfer *transfer, int length, uint8_t flags, int 
     trace_out();
 }
 
-static struct tirnouch_told look_at(const struct pipe *pipe)
+/* A transfer's next piece, of so many bytes. One that reads lends its part of the program's buffer: the packets' bytes go straight into
+ * it. That its time is over is told by an expiry, so any timeout but 0 will do. */
+int core_submit(struct transfer *transfer, int length, uint8_t flags)
 {
-    struct tirnouch_told told = { 0 };
-    tirnouch_look(&pipe->core->slot, pipe->number, pipe->ep, &told);
-    return told;
+    const struct pipe *pipe = transfer->pipe;
+    struct tirnouch_slot *core = &pipe->core->slot;
+    uint8_t name = (uint8_t)pipe->name, *at = length ? public_of(transfer)->buffer + transfer->moved : process.nowhere;
+    uint32_t timeout = transfer->deadline ? 1 : 0;
+    uint64_t payload = (uint64_t)(uintptr_t)transfer;
+    bool lends = length && is_in(pipe->ep);
+    struct tirnouch_memory memory = { .at = at, .len = (size_t)length };
+    struct tirnouch_reply reply;
+    int answer = lends ? tirnouch_submit_in(core, name, pipe->ep, pipe->kind, flags, timeout, &memory, payload, &reply)
+                       : tirnouch_submit(core, name, pipe->ep, pipe->kind, flags, timeout, 0, at, (size_t)length, payload, &reply);
+    if (!answer) {
+        transfer->number = reply.number;
+        transfer->lent = lends ? at : process.nowhere;
+    }
+    if (process.bus.is_traced)
+        trace_submission(transfer, length, flags, answer);
+    return answer;
+}
+
+static struct tirnouch_view look_at(const struct pipe *pipe)
+{
+    struct tirnouch_view view = { 0 };
+    tirnouch_look(&pipe->core->slot, pipe->number, pipe->ep, &view);
+    return view;
 }
 
 /* Whether a packet at an endpoint does something. */
 bool core_serves(const struct pipe *pipe)
 {
-    return look_at(pipe).kind;
+    return look_at(pipe).has_packet;
 }
 
 /* At an endpoint whose interface was claimed: how many answers its device has left, and whether it is halted. */
 struct rest core_rest(const struct pipe *pipe)
 {
-    struct tirnouch_told told = look_at(pipe);
-    return (struct rest){ .answers = (uint32_t)told.n, .is_halted = told.amount };
+    struct tirnouch_view view = look_at(pipe);
+    return (struct rest){ .answers = (uint32_t)view.answers_left, .is_halted = view.is_halted };
 }
 
 /* A device answers packets at an endpoint; whether something came of it. A device that has no answer left isn't ready. */
-bool core_serve(struct pipe *pipe, uint32_t most, struct tirnouch_told *told)
+bool core_serve(struct pipe *pipe, uint32_t most, struct tirnouch_reply *reply)
 {
-    tirnouch_serve(&pipe->core->slot, pipe->number, pipe->ep, most, told);
+    tirnouch_serve(&pipe->core->slot, pipe->number, pipe->ep, most, reply);
     if (process.bus.is_traced) {
         trace_to(pipe->core);
         trace_text("serve ");
@@ -132,7 +148,7 @@ bool core_serve(struct pipe *pipe, uint32_t most, struct tirnouch_told *told)
         trace_text("\n");
         trace_out();
     }
-    return told->amount > 1 || (told->kind != TIRNOUCH_IDLE && told->kind != TIRNOUCH_NAK);
+    return reply->packets > 1 || (reply->kind != TIRNOUCH_IDLE && reply->kind != TIRNOUCH_NAK);
 }
 
 /* A line of the trace: an answer of this kind of `tirnouch_feed` that was computed, which stands in the script from the beginning on. */
@@ -156,19 +172,20 @@ void trace_feed(const struct pipe *pipe, uint8_t kind, const uint8_t *bytes, int
 
 bool core_settle_in(struct core *core, uint32_t most)
 {
-    struct tirnouch_told told = { 0 };
+    struct tirnouch_progress progress = { 0 };
+    struct tirnouch_view view = { 0 };
     if (!process.bus.is_traced) {
-        tirnouch_settle(&core->slot, 0, most, &told);
-        return told.amount;
+        tirnouch_settle(&core->slot, 0, most, &progress);
+        return progress.steps;
     }
     for (uint32_t done = 0; done < most; done++) {
-        tirnouch_look(&core->slot, 0, 0, &told);
-        if (!(told.status & (TIRNOUCH_WAITS_ORDER | TIRNOUCH_WAITS_EVENT)))
+        tirnouch_look(&core->slot, 0, 0, &view);
+        if (!(view.waiting & (TIRNOUCH_WAITS_ORDER | TIRNOUCH_WAITS_EVENT)))
             return done;
         trace_to(core);
-        trace_text(told.status & TIRNOUCH_WAITS_EVENT ? "deliver\n" : "command\n");
+        trace_text(view.waiting & TIRNOUCH_WAITS_EVENT ? "deliver\n" : "command\n");
         trace_out();
-        tirnouch_settle(&core->slot, 0, 1, &told);
+        tirnouch_settle(&core->slot, 0, 1, &progress);
     }
     return true;
 }
@@ -185,39 +202,65 @@ bool core_settle(uint32_t most)
 static const char *const statuses[] = { "COMPLETED", "ERROR", "TIMED_OUT", "CANCELLED", "STALL", "NO_DEVICE", "OVERFLOW" };
 
 /* The bytes of one that was dropped aren't looked at: its buffer may be gone. */
-static void trace_result(const struct tirnouch_told *told, const struct transfer *transfer, const struct tirnouch_memory *read)
+static void trace_result(const struct tirnouch_result *result, const struct transfer *transfer, const struct tirnouch_memory *read)
 {
     trace_text("take\n# called ");
-    trace_number(told->n);
+    trace_number(result->number);
     trace_text(" ep ");
-    trace_hex(&told->ep, 1);
+    trace_hex(&result->endpoint, 1);
     trace_text(" ");
-    trace_text(statuses[told->status]);
+    trace_text(statuses[result->status]);
     trace_text(" ");
-    trace_number(told->amount);
+    trace_number(result->actual_length);
     trace_text(" ");
     if (transfer->is_dropped)
-        trace_text(is_in(told->ep) ? "?" : "-");
+        trace_text(is_in(result->endpoint) ? "?" : "-");
     else
         trace_hex(read->at, (int)read->filled);
     trace_text("\nreturn ");
-    trace_number(told->h);
+    trace_number(result->handle);
     trace_text(" ");
-    trace_number(told->n);
+    trace_number(result->number);
     trace_text("\n# done\n");
     trace_out();
 }
 
+/* The core gave back memory that isn't the transfer's: nothing is sure any more. */
+static _Noreturn void end_for_memory(void)
+{
+    fputs("libusb: error: a result came back with memory of another transfer: this is a fault of Tirnouch's\n", stderr);
+    abort();
+}
+
+/* The transfer of a result. What it lent is the program's again. The core's contract has the bytes that stand in the memory which comes
+ * back, but not its address; so it is asked here, the one place that each result comes by. */
+static struct transfer *transfer_of(const struct tirnouch_result *result, const struct tirnouch_memory *back)
+{
+    struct transfer *transfer = (struct transfer *)(uintptr_t)result->payload;
+    if (back->at != transfer->lent)
+        end_for_memory();
+    return transfer;
+}
+
 /* The oldest result goes out. Its transfer, or NULL where there is none. */
-struct transfer *core_take(struct core *core, struct tirnouch_told *told)
+struct transfer *core_take(struct core *core, struct tirnouch_result *result)
 {
     struct tirnouch_memory back = no_memory();
-    if (tirnouch_take(&core->slot, &back, told) != 1)
+    if (tirnouch_take(&core->slot, &back, result) != 1)
         return NULL;
-    struct transfer *transfer = transfer_of(told, &back);
+    struct transfer *transfer = transfer_of(result, &back);
     if (process.bus.is_traced)
         trace_to(core);
     if (process.bus.is_traced)
-        trace_result(told, transfer, &back);
+        trace_result(result, transfer, &back);
     return transfer;
+}
+
+/* In one call, which no trace has: a device answers packets at an endpoint, what is to be done behind them is done, and the oldest
+ * result goes out. Its transfer, or NULL where there is none. */
+struct transfer *core_turn(const struct pipe *pipe, struct tirnouch_result *result)
+{
+    struct tirnouch_memory back = no_memory();
+    int answer = tirnouch_turn(&pipe->core->slot, pipe->number, pipe->ep, ALL, ALL, &back, result);
+    return answer == 1 ? transfer_of(result, &back) : NULL;
 }

@@ -6,6 +6,10 @@
 #include <stdlib.h>
 #include <string.h>
 
+/* The words of a line where its answers begin, from 0 on. */
+#define SCRIPT_ANSWERS 3
+#define CONTROL_ANSWERS 6
+
 static const char numbers[] = "a device's number stands here, 0 to 15";
 
 /* The line that begins there; false where the text is at its end. */
@@ -238,27 +242,6 @@ void grow(struct growing *text, const char *bytes, size_t length)
     text->length += length;
 }
 
-/* A script's line, of which the answers that were given are left out; a comment where none is left. */
-static void write_rest(struct growing *to, const struct line *line, const struct device *device)
-{
-    int length, count = 0;
-    const char *ep = word_of(line->at, (int)line->length, 2, &length), *end = line->at + line->length;
-    unsigned address = (unsigned)strtoul(ep, NULL, 16);
-    const struct pipe *pipe = &device->pipes[place_of((uint8_t)address)];
-    for (const char *at = ep + length; at < end; at++)
-        count += *at == ' ';
-    int left = pipe->name < 0 ? count : (int)core_rest(pipe).answers;
-    if (!left) {
-        grow(to, "#", 1);
-        return;
-    }
-    const char *answers = word_of(line->at, (int)line->length, (uint32_t)(3 + count - (left < count ? left : count)), &length);
-    grow(to, "script 0 ", 9);
-    grow(to, ep, 2);
-    grow(to, " ", 1);
-    grow(to, answers, (size_t)(end - answers));
-}
-
 /* A line with another number of its device. */
 static void write_line(struct growing *to, const struct line *line, int there)
 {
@@ -270,6 +253,48 @@ static void write_line(struct growing *to, const struct line *line, int there)
     grow(to, behind, (size_t)(line->at + line->length - behind));
 }
 
+/* How many words a line has from this one on. */
+static int words_from(const struct line *line, uint32_t index)
+{
+    int length, count = 1;
+    const char *at = word_of(line->at, (int)line->length, index, &length), *end = line->at + line->length;
+    if (at == end)
+        return 0;
+    for (; at < end; at++)
+        count += *at == ' ';
+    return count;
+}
+
+/* A line whose answers begin with this word: the last of them, so many, behind what the line says first; a comment where none is left. */
+static void write_rest(struct growing *to, const struct line *line, int there, uint32_t first, int left)
+{
+    int length, count = words_from(line, first);
+    if (!left) {
+        grow(to, "#", 1);
+        return;
+    }
+    const char *answers = word_of(line->at, (int)line->length, first, &length), *end = line->at + line->length;
+    const char *rest = word_of(line->at, (int)line->length, first + (uint32_t)(left < count ? count - left : 0), &length);
+    struct line head = { .at = line->at, .length = (size_t)(answers - line->at) };
+    write_line(to, &head, there);
+    grow(to, rest, (size_t)(end - rest));
+}
+
+/* A script's, as many as are left in the device's core; all before its interface was claimed. */
+static void write_script(struct growing *to, const struct line *line, int there, const struct device *device)
+{
+    int length;
+    const char *ep = word_of(line->at, (int)line->length, 2, &length);
+    const struct pipe *pipe = &device->pipes[place_of((uint8_t)strtoul(ep, NULL, 16))];
+    write_rest(to, line, there, SCRIPT_ANSWERS, pipe->name < 0 ? words_from(line, SCRIPT_ANSWERS) : (int)core_rest(pipe).answers);
+}
+
+/* Those of the device's requests of this index that are left in its core, where the last one stays. */
+static void write_requests(struct growing *to, const struct line *line, int there, const struct device *device, size_t index)
+{
+    write_rest(to, line, there, CONTROL_ANSWERS, tirnouch_answers_left(&device->core->slot, device->number_there, index));
+}
+
 /* What is counted here, from the device's beginning on, over all its sessions. */
 static bool is_learned_once(const struct line *line)
 {
@@ -277,11 +302,11 @@ static bool is_learned_once(const struct line *line)
 }
 
 /* The lines of the devices that have a number `there`, with that, and those of no device; all others are comments, so that the lines keep
- * their places. With `rests` they are for a further session: the scripts have what that device has left of them in its core. */
+ * their places. With `rests` they are for a further session: its answers are what that device has left of them in its core. */
 void write_lines(struct growing *to, const char *text, size_t length, const int there[DEVICES], const struct device *rests)
 {
     struct line line = { .number = 0 };
-    size_t at = 0;
+    size_t at = 0, requests = 0;
     while (next_line(text, length, &at, &line)) {
         int device = device_of_line(&line);
         if (is_for_here(&line) || (device >= 0 && there[device] < 0) || (rests && is_learned_once(&line)))
@@ -289,7 +314,9 @@ void write_lines(struct growing *to, const char *text, size_t length, const int 
         else if (device < 0)
             grow(to, line.at, line.length);
         else if (rests && begins(&line, "script "))
-            write_rest(to, &line, rests);
+            write_script(to, &line, there[device], rests);
+        else if (rests && begins(&line, "control "))
+            write_requests(to, &line, there[device], rests, requests++);
         else
             write_line(to, &line, there[device]);
         grow(to, "\n", 1);

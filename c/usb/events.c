@@ -32,11 +32,19 @@ void wake_others(const struct libusb_context *context)
             wake(it);
 }
 
+/* Who ends the context waits until nobody handles its events or waits for that. */
+void tell_leaver(struct libusb_context *context)
+{
+    if (!context->is_open)
+        pthread_cond_signal(&context->left);
+}
+
 void wait_for_move(struct libusb_context *context)
 {
     context->waiting++;
     pthread_cond_wait(&context->moved, &process.lock);
     context->waiting--;
+    tell_leaver(context);
 }
 
 /* Whoever handles events, or waits for that, returns to the program. */
@@ -59,6 +67,17 @@ void tell_lockers(struct libusb_context *context)
     pthread_mutex_unlock(&context->waiters);
     lock();
     context->waiting--;
+    tell_leaver(context);
+}
+
+/* Nobody handles events any more. */
+void step_down(struct libusb_context *context)
+{
+    context->is_handled = false;
+    if (context->waiting)
+        pthread_cond_broadcast(&context->moved);
+    tell_waiters(context);
+    tell_leaver(context);
 }
 
 static void call_back(struct libusb_context *context, struct transfer *transfer)
@@ -100,7 +119,9 @@ static bool call_ended(struct libusb_context *context)
 }
 
 /* In virtual time nothing is waited for: time passes, as far as to the first deadline of all contexts. Not where something was to be done
- * since `stirs` was looked at: by whoever submits meanwhile, its device is asked first. */
+ * since `stirs` was looked at: by whoever submits meanwhile, its device is asked first. So the other threads have their turn before: those
+ * that wait for the lock wouldn't get it from a thread that takes it again at once. There is nothing to wait for by a condition, since nobody
+ * knows whether a thread is about to call; and the thread yields once, however long time is to pass. */
 static void pass_time(struct libusb_context *context, uint64_t end, uint64_t stirs)
 {
     struct bus *bus = &process.bus;
@@ -149,6 +170,17 @@ static bool wait_on(struct libusb_context *context, uint64_t end, uint64_t stirs
     return false;
 }
 
+/* What devices, controller and events have to do, until nothing is left; with a seed until it is enough by dice. `waits`: whoever calls
+ * goes on until something is called back. */
+static void work_off(bool waits)
+{
+    process.bus.is_readied = false;
+    if ((!turn_only_one() || work_on(waits)) && (!process.bus.is_readied || work_again(waits)))
+        process.bus.settled = process.bus.stirs;
+    else
+        process.bus.stirs++;
+}
+
 /* Handles events until a callback ran, `end` passed or the loop was interrupted; 0 is now. Lock held, by the one who handles events. */
 static int handle_events(struct libusb_context *context, uint64_t end)
 {
@@ -180,18 +212,20 @@ static int handle_events(struct libusb_context *context, uint64_t end)
     return r;
 }
 
-/* Another thread handles them: until it called something back, or that moment. `completed` is looked at while no callback runs. */
+/* Another thread handles them: until it called something back, that moment, or the context's end. `completed` is looked at while no
+ * callback runs. */
 static void await_handler(struct libusb_context *context, uint64_t end, int *completed)
 {
     uint64_t moment = now();
     struct timespec until = moment_in(end > moment ? end - moment : 0);
     int r = 0;
     context->waiting++;
-    while (context->is_calling && !r)
+    while (context->is_calling && context->is_open && !r)
         r = pthread_cond_timedwait(&context->moved, &process.lock, &until);
-    if (context->is_handled && !is_set(completed) && !r)
+    if (context->is_handled && context->is_open && !is_set(completed) && !r)
         pthread_cond_timedwait(&context->moved, &process.lock, &until);
     context->waiting--;
+    tell_leaver(context);
 }
 
 /* As the one who handles events, who is held by the event lock already or only for this call. */

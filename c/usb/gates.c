@@ -30,14 +30,13 @@ static int add_gate(struct pipe *pipe, struct gate gate)
 
 int learn_gates(struct device *device)
 {
-    struct tirnouch_told told = { 0 };
-    for (size_t i = 0; !tirnouch_tell(&device->core->slot, device->number_there, TIRNOUCH_SAYS_GATE, i, &told); i++) {
-        struct gate gate = { .place = told.amount, .is_of_requests = told.kind, .count = told.n };
+    struct tirnouch_gate found;
+    for (size_t i = 0; !tirnouch_gate(&device->core->slot, device->number_there, i, &found); i++) {
+        struct gate gate = { .place = found.place, .is_of_requests = found.awaited == TIRNOUCH_AWAITS_REQUESTS, .count = found.count,
+                             .other = found.other };
         if (gate.is_of_requests)
-            gate.meant = meant_by(&told);
-        else
-            gate.other = told.status;
-        int r = add_gate(&device->pipes[place_of(told.ep)], gate);
+            gate.meant = meant_by(&found);
+        int r = add_gate(&device->pipes[place_of(found.endpoint)], gate);
         if (r)
             return r;
         device->is_watched = true;

@@ -1,5 +1,5 @@
-/* What each transfer comes by, inline. Where most often nothing is to be done, that is found out here, and only the rest is a call.
- * bus.h includes this file. */
+/* What each transfer comes by several times, inline for its speed: where most often nothing is to be done, that is found out here, and the
+ * rest is a call. What decides more than that stands in the .c files. bus.h includes this file. */
 #ifndef INLINE_H
 #define INLINE_H
 
@@ -45,12 +45,6 @@ static inline void stir(struct libusb_context *context)
         wake_others(context);
 }
 
-/* When a device is to be asked again; 0 for none. */
-static inline uint64_t next_ask(void)
-{
-    return process.bus.own ? next_ask_of_all() : process.bus.controls.first ? process.bus.again : 0;
-}
-
 static inline bool is_settled(void)
 {
     return process.bus.settled == process.bus.stirs;
@@ -59,28 +53,8 @@ static inline bool is_settled(void)
 /* Those who wait by libusb_wait_for_event. The lock is let go meanwhile, and the context stays. */
 static inline void tell_waiters(struct libusb_context *context)
 {
-    if (__atomic_load_n(&context->lockers, __ATOMIC_ACQUIRE))
+    if (context->lockers)
         tell_lockers(context);
-}
-
-/* What devices, controller and events have to do, until nothing is left; with a seed until it is enough by dice. `waits`: whoever calls
- * goes on until something is called back. */
-static inline void work_off(bool waits)
-{
-    process.bus.is_readied = false;
-    if ((!turn_only_one() || work_on(waits)) && (!process.bus.is_readied || work_again(waits)))
-        process.bus.settled = process.bus.stirs;
-    else
-        process.bus.stirs++;
-}
-
-/* Nobody handles events any more. */
-static inline void step_down(struct libusb_context *context)
-{
-    context->is_handled = false;
-    if (context->waiting)
-        pthread_cond_broadcast(&context->moved);
-    tell_waiters(context);
 }
 
 /* With a seed: before each call a few single steps, by dice, so that races come out; for the same number the same. */
@@ -88,18 +62,6 @@ static inline void random_steps(void)
 {
     if (process.bus.seed)
         random_steps_by_dice();
-}
-
-static inline uint64_t deadline_of(unsigned milliseconds)
-{
-    return milliseconds ? now() + (uint64_t)milliseconds * 1000000u : 0;
-}
-
-/* An interface that is used before it was claimed is claimed, as Linux has it: the handle holds it until it is closed, or claims it itself
- * and releases it. */
-static inline int claim_in_passing(struct libusb_device_handle *handle, int interface)
-{
-    return handle->claimed >> interface & 1 ? 0 : claim_unasked(handle, interface);
 }
 
 static inline void join(struct transfers *queue, struct transfer *transfer)
@@ -123,29 +85,6 @@ static inline void leave(struct transfers *queue, struct transfer *transfer)
         queue->last = NULL;
 }
 
-static inline int left_of(struct transfer *transfer)
-{
-    return public_of(transfer)->length - transfer->moved;
-}
-
-static inline bool may_go(const struct pipe *pipe, struct transfer *transfer)
-{
-    if (pipe->cut && pipe->cut != transfer)
-        return false;
-    return !pipe->in_core || (pipe->in_core < PLACES && left_of(transfer) <= pipe->most);
-}
-
-static inline int submit_at_endpoint(struct transfer *transfer)
-{
-    if (!transfer->pipe->queue.first && may_go(transfer->pipe, transfer)) {
-        int r = submit_piece(transfer);
-        if (r != LIBUSB_ERROR_BUSY)
-            return r;
-    }
-    queue_up(transfer);
-    return 0;
-}
-
 /* Whether a call of this answer is told: a refusal at level 3, any other at level 4. With or without the lock. */
 static inline bool is_told(const struct libusb_context *context, int answer)
 {
@@ -157,48 +96,6 @@ static inline bool is_told(const struct libusb_context *context, int answer)
 static inline struct tirnouch_memory no_memory(void)
 {
     return (struct tirnouch_memory){ .at = process.nowhere };
-}
-
-/* A transfer's next piece, of so many bytes. One that reads lends its part of the program's buffer: the packets' bytes go straight into
- * it. That its time is over is told by an expiry, so any timeout but 0 will do. */
-static inline int core_submit(struct transfer *transfer, int length, uint8_t flags)
-{
-    const struct pipe *pipe = transfer->pipe;
-    struct tirnouch_slot *core = &pipe->core->slot;
-    uint8_t name = (uint8_t)pipe->name, *at = length ? public_of(transfer)->buffer + transfer->moved : process.nowhere;
-    uint32_t timeout = transfer->deadline ? 1 : 0;
-    uint64_t payload = (uint64_t)(uintptr_t)transfer;
-    bool lends = length && is_in(pipe->ep);
-    struct tirnouch_memory memory = { .at = at, .len = (size_t)length };
-    struct tirnouch_told told;
-    int answer = lends ? tirnouch_submit_in(core, name, pipe->ep, pipe->kind, flags, timeout, &memory, payload, &told)
-                       : tirnouch_submit(core, name, pipe->ep, pipe->kind, flags, timeout, 0, at, (size_t)length, payload, &told);
-    if (!answer) {
-        transfer->number = told.n;
-        transfer->lent = lends ? at : process.nowhere;
-    }
-    if (process.bus.is_traced)
-        trace_submission(transfer, length, flags, answer);
-    return answer;
-}
-
-/* The transfer of a result. What it lent is the program's again. The core's contract has the bytes that stand in the memory which comes
- * back, but not its address; so it is asked here, the one place that each result comes by. */
-static inline struct transfer *transfer_of(const struct tirnouch_told *told, const struct tirnouch_memory *back)
-{
-    struct transfer *transfer = (struct transfer *)(uintptr_t)told->payload;
-    if (back->at != transfer->lent)
-        end_for_memory();
-    return transfer;
-}
-
-/* In one call, which no trace has: a device answers packets at an endpoint, what is to be done behind them is done, and the oldest
- * result goes out. Its transfer, or NULL where there is none. */
-static inline struct transfer *core_turn(const struct pipe *pipe, struct tirnouch_told *told)
-{
-    struct tirnouch_memory back = no_memory();
-    int answer = tirnouch_turn(&pipe->core->slot, pipe->number, pipe->ep, ALL, ALL, &back, told);
-    return answer == 1 ? transfer_of(told, &back) : NULL;
 }
 
 #endif

@@ -91,18 +91,18 @@ void judge_end(struct pipe *pipe)
 {
     uint8_t data[MOST_PACKET];
     struct judged *judged = expected_at(pipe);
-    struct tirnouch_told told = { 0 };
+    struct tirnouch_offer next = { 0 };
     if (judged->is_past || judged->place < judged->count || pipe->is_asked || pipe->device->is_gone)
         return;
-    tirnouch_offer(&pipe->core->slot, pipe->number, pipe->ep, data, MOST_PACKET, &told);
-    if (told.kind != TIRNOUCH_OFFER_ASKED)
+    tirnouch_offer(&pipe->core->slot, pipe->number, pipe->ep, data, MOST_PACKET, &next);
+    if (!next.is_asked)
         return;
     judged->is_past = true;
     struct sentence it = { 0 };
     say_endpoint(&it, pipe);
     append(&it, "packet %" PRIu64 " is more than the script takes, and waits: came ", judged->place + 1);
-    say_bytes(&it, data, (int)told.amount, -1);
-    append(&it, " (length %d)", (int)told.amount);
+    say_bytes(&it, data, (int)next.length, -1);
+    append(&it, " (length %d)", (int)next.length);
     if (!tell_difference(pipe->device, &it))
         judged->untold = judged->place + 1;
 }

@@ -54,36 +54,33 @@ bool is_lost(const struct libusb_device_handle *handle)
     return handle->device->is_gone || handle->is_lost;
 }
 
-/* Interfaces and endpoints of the configuration's first settings, as the core has them (USB 2.0, 9.6.5, 9.6.6). */
+/* The core has read the configuration: its interfaces, and the endpoints of their first settings. */
+static void learn_interfaces(struct device *device)
+{
+    int number;
+    for (size_t i = 0; (number = tirnouch_interface(&device->core->slot, device->number_there, i)) >= 0; i++)
+        if (number < INTERFACES)
+            device->interfaces[number].is_there = true;
+    for (size_t i = 0; (number = tirnouch_driver(&device->core->slot, device->number_there, i)) >= 0; i++)
+        if (number < INTERFACES)
+            device->interfaces[number].has_driver = true;
+}
+
 static void learn_endpoints(struct device *device)
 {
-    struct interface *interface = NULL;
-    const uint8_t *config = device->config;
+    struct tirnouch_endpoint found;
     for (unsigned i = 0; i < ENDPOINTS; i++)
         device->pipes[i] = (struct pipe){ .device = device, .core = device->core, .number = device->number_there, .name = -1,
                                           .ep = (uint8_t)(i / 2 + i % 2 * 128) };
-    for (int at = config[0]; at + 1 < device->config_length && config[at] >= 2; at += config[at]) {
-        const uint8_t *it = config + at;
-        if (it[1] == LIBUSB_DT_INTERFACE) {
-            interface = it[2] < INTERFACES && !it[3] ? &device->interfaces[it[2]] : NULL;
-            if (interface)
-                interface->is_there = true;
-        } else if (it[1] == LIBUSB_DT_ENDPOINT && interface && it[2] & 15) {
-            struct pipe *pipe = &device->pipes[place_of(it[2])];
-            pipe->kind = it[3] & 3;
-            pipe->interface = (uint8_t)(interface - device->interfaces);
-            pipe->packet = (uint16_t)(two_bytes(it + 4) & 0x7ff);
-            pipe->most = pipe->packet ? MOST_BYTES - MOST_BYTES % pipe->packet : MOST_BYTES;
-        }
+    for (size_t i = 0; !tirnouch_endpoint(&device->core->slot, device->number_there, i, &found); i++) {
+        struct pipe *pipe = &device->pipes[place_of(found.address)];
+        if (found.interface >= INTERFACES)
+            continue;
+        pipe->kind = found.transfer_type;
+        pipe->interface = found.interface;
+        pipe->packet = found.packet_size;
+        pipe->most = pipe->packet ? MOST_BYTES - MOST_BYTES % pipe->packet : MOST_BYTES;
     }
-}
-
-static void learn_drivers(struct device *device)
-{
-    struct tirnouch_told told = { 0 };
-    for (size_t i = 0; !tirnouch_tell(&device->core->slot, device->number_there, TIRNOUCH_SAYS_DRIVER, i, &told); i++)
-        if (told.n < INTERFACES)
-            device->interfaces[told.n].has_driver = true;
 }
 
 static int learn_config(struct device *device)
@@ -104,21 +101,22 @@ static int learn_config(struct device *device)
 /* Where a descriptor says several configurations, programs see the one that there is. */
 static void learn_word_lines(struct device *device)
 {
-    struct tirnouch_told told = { 0 };
+    struct tirnouch_device found;
+    struct tirnouch_departure departure;
     uint8_t number = device->number_there;
     device->configurations = device->descriptor[17];
     device->descriptor[17] = 1;
-    if (!tirnouch_tell(&device->core->slot, number, TIRNOUCH_SAYS_SPEED, 0, &told)) {
-        device->speed = told.kind;
-        device->is_hidden = told.status;
-        device->begins_anew = told.amount;
-        device->lasts = told.n;
+    if (!tirnouch_device(&device->core->slot, number, &found)) {
+        device->speed = found.speed;
+        device->is_hidden = found.is_hidden;
+        device->begins_anew = found.begins_anew;
+        device->lasts = found.lasts;
         device->is_watched |= device->lasts;
     }
-    if (!tirnouch_tell(&device->core->slot, number, TIRNOUCH_SAYS_DEPARTURE, 0, &told)) {
+    if (!tirnouch_departure(&device->core->slot, number, 0, &departure)) {
         device->leaves = device->is_watched = true;
-        device->leaves_ep = told.ep;
-        device->leaves_behind = told.amount;
+        device->leaves_ep = departure.endpoint;
+        device->leaves_behind = departure.answers;
     }
 }
 
@@ -133,8 +131,8 @@ int learn(struct device *device)
         return r;
     for (int i = 0; i < INTERFACES; i++)
         device->interfaces[i].name = -1;
+    learn_interfaces(device);
     learn_endpoints(device);
-    learn_drivers(device);
     learn_living(device);
     r = learn_gates(device);
     watch(device);

@@ -32,8 +32,20 @@ static void activate(struct pipe *pipe)
     pipe->is_active = true;
 }
 
+static int left_of(struct transfer *transfer)
+{
+    return public_of(transfer)->length - transfer->moved;
+}
+
+static bool may_go(const struct pipe *pipe, struct transfer *transfer)
+{
+    if (pipe->cut && pipe->cut != transfer)
+        return false;
+    return !pipe->in_core || (pipe->in_core < PLACES && left_of(transfer) <= pipe->most);
+}
+
 /* Its next piece goes into the core. */
-int submit_piece(struct transfer *transfer)
+static int submit_piece(struct transfer *transfer)
 {
     struct pipe *pipe = transfer->pipe;
     int left = left_of(transfer);
@@ -58,6 +70,18 @@ void queue_up(struct transfer *transfer)
     transfer->stage = QUEUED;
     join(&transfer->pipe->queue, transfer);
     activate(transfer->pipe);
+}
+
+/* Into the core, or behind those that wait. */
+int submit_at_endpoint(struct transfer *transfer)
+{
+    if (!transfer->pipe->queue.first && may_go(transfer->pipe, transfer)) {
+        int r = submit_piece(transfer);
+        if (r != LIBUSB_ERROR_BUSY)
+            return r;
+    }
+    queue_up(transfer);
+    return 0;
 }
 
 /* Behind a halt by the program's own request; whether one ended. */
@@ -94,17 +118,17 @@ bool feed(struct pipe *pipe)
 }
 
 /* What a result tells the program: one that was withdrawn for its endpoint's halt has stalled. */
-static inline enum libusb_transfer_status status_of(const struct transfer *transfer, const struct tirnouch_told *told)
+static inline enum libusb_transfer_status status_of(const struct transfer *transfer, const struct tirnouch_result *result)
 {
-    bool is_halt = transfer->is_stalled && told->status == LIBUSB_TRANSFER_CANCELLED;
-    return is_halt ? LIBUSB_TRANSFER_STALL : told->status;
+    bool is_halt = transfer->is_stalled && result->status == LIBUSB_TRANSFER_CANCELLED;
+    return is_halt ? LIBUSB_TRANSFER_STALL : result->status;
 }
 
 /* Of a transfer that goes in pieces: the next one waits for its place, before all others. */
-static void finish_piece(struct transfer *transfer, const struct tirnouch_told *told)
+static void finish_piece(struct transfer *transfer, const struct tirnouch_result *result)
 {
-    if (told->status != LIBUSB_TRANSFER_COMPLETED || (int)told->amount != transfer->piece || transfer->is_dropped) {
-        end_transfer(transfer, status_of(transfer, told), transfer->moved + (int)told->amount);
+    if (result->status != LIBUSB_TRANSFER_COMPLETED || (int)result->actual_length != transfer->piece || transfer->is_dropped) {
+        end_transfer(transfer, status_of(transfer, result), transfer->moved + (int)result->actual_length);
         return;
     }
     transfer->moved += transfer->piece;
@@ -118,31 +142,31 @@ static void finish_piece(struct transfer *transfer, const struct tirnouch_told *
 }
 
 /* A result went out of the core, and nothing goes into it for it. */
-static inline void finish_alone(struct transfer *transfer, const struct tirnouch_told *told)
+static inline void finish_alone(struct transfer *transfer, const struct tirnouch_result *result)
 {
     struct pipe *pipe = transfer->pipe;
     pipe->in_core--;
     process.bus.in_core--;
     if (pipe->cut == transfer)
-        finish_piece(transfer, told);
+        finish_piece(transfer, result);
     else
-        end_transfer(transfer, status_of(transfer, told), transfer->moved + (int)told->amount);
+        end_transfer(transfer, status_of(transfer, result), transfer->moved + (int)result->actual_length);
 }
 
-static inline void finish(struct transfer *transfer, const struct tirnouch_told *told)
+static inline void finish(struct transfer *transfer, const struct tirnouch_result *result)
 {
     struct pipe *pipe = transfer->pipe;
-    finish_alone(transfer, told);
+    finish_alone(transfer, result);
     if (pipe->queue.first)
         feed(pipe);
 }
 
 static inline bool reap_in(struct core *core)
 {
-    struct tirnouch_told told;
-    struct transfer *transfer = process.bus.in_core ? core_take(core, &told) : NULL;
+    struct tirnouch_result result;
+    struct transfer *transfer = process.bus.in_core ? core_take(core, &result) : NULL;
     if (transfer)
-        finish(transfer, &told);
+        finish(transfer, &result);
     return transfer;
 }
 
@@ -168,11 +192,11 @@ bool reap(void)
 /* Results of an endpoint's packets, one behind the other, until they bring about none; whether there was one. */
 static bool turn_over(struct pipe *pipe)
 {
-    struct tirnouch_told told;
+    struct tirnouch_result result;
     struct transfer *transfer;
     bool any = false;
-    while (pipe->in_core && (transfer = core_turn(pipe, &told))) {
-        finish(transfer, &told);
+    while (pipe->in_core && (transfer = core_turn(pipe, &result))) {
+        finish(transfer, &result);
         any = true;
     }
     return any;
@@ -201,17 +225,17 @@ bool turn_only_one(void)
 }
 
 /* A transfer that is taken out of its core: it has moved what its piece moved. One that came to an end of its own meanwhile has ended. */
-static void finish_moving(struct transfer *transfer, const struct tirnouch_told *told)
+static void finish_moving(struct transfer *transfer, const struct tirnouch_result *result)
 {
     struct pipe *pipe = transfer->pipe;
-    if (!transfer->is_moving || told->status != LIBUSB_TRANSFER_CANCELLED) {
+    if (!transfer->is_moving || result->status != LIBUSB_TRANSFER_CANCELLED) {
         transfer->is_moving = false;
-        finish_alone(transfer, told);
+        finish_alone(transfer, result);
         return;
     }
     pipe->in_core--;
     process.bus.in_core--;
-    transfer->moved += (int)told->amount;
+    transfer->moved += (int)result->actual_length;
     transfer->stage = QUEUED;
     if (pipe->cut == transfer)
         pipe->cut = NULL;
@@ -227,7 +251,7 @@ static void ask_out(struct transfer *transfer)
  * end ends. The next session of its core goes on with it, as with pieces. */
 void take_out(struct device *device)
 {
-    struct tirnouch_told told;
+    struct tirnouch_result result;
     struct transfer *transfer;
     trace_comment(device->core, "device %d goes on in another session: what is in flight is taken out", device->number_there);
     for (struct libusb_context *context = process.contexts; context; context = context->next)
@@ -236,8 +260,8 @@ void take_out(struct device *device)
                 ask_out(it);
     for (bool any = true; any;) {
         any = core_settle_in(device->core, ALL);
-        while ((transfer = core_take(device->core, &told))) {
-            finish_moving(transfer, &told);
+        while ((transfer = core_take(device->core, &result))) {
+            finish_moving(transfer, &result);
             any = true;
         }
     }

@@ -106,11 +106,12 @@ static bool take_answer(struct pipe *pipe, int answer, const uint8_t *data)
     return core_serves(pipe);
 }
 
-static struct tirnouch_told offer(const struct pipe *pipe, uint8_t data[MOST_PACKET])
+/* The packet that is next at an endpoint, and its bytes where the host sends. */
+static struct tirnouch_offer next_packet(const struct pipe *pipe, uint8_t data[MOST_PACKET])
 {
-    struct tirnouch_told told = { 0 };
-    tirnouch_offer(&pipe->core->slot, pipe->number, pipe->ep, data, MOST_PACKET, &told);
-    return told;
+    struct tirnouch_offer next = { 0 };
+    tirnouch_offer(&pipe->core->slot, pipe->number, pipe->ep, data, MOST_PACKET, &next);
+    return next;
 }
 
 /* Whether a packet at an endpoint is to be served, for which its device is asked where the script has no answer. */
@@ -118,13 +119,13 @@ bool ask_device(struct pipe *pipe)
 {
     uint8_t data[MOST_PACKET];
     renew_where_full(pipe);
-    struct tirnouch_told told = offer(pipe, data);
-    if (told.kind != TIRNOUCH_OFFER_ASKED)
+    struct tirnouch_offer next = next_packet(pipe, data);
+    if (!next.is_asked)
         return core_serves(pipe);
     if (pipe->later > now())
         return false;
     pipe->later = 0;
-    int length = (int)told.amount;
+    int length = (int)next.length;
     return take_answer(pipe, pipe->device->program ? ask_program(pipe->device, pipe->ep, data, length) : ask_function(pipe, data, length),
                        data);
 }
@@ -133,11 +134,11 @@ bool ask_device(struct pipe *pipe)
 bool may_be_asked(const struct pipe *pipe)
 {
     uint8_t data[MOST_PACKET];
-    return pipe->is_asked && !pipe->device->is_gone && pipe->later <= now() && offer(pipe, data).kind == TIRNOUCH_OFFER_ASKED;
+    return pipe->is_asked && !pipe->device->is_gone && pipe->later <= now() && next_packet(pipe, data).is_asked;
 }
 
 /* Requests, and endpoints where a packet waits for that. */
-uint64_t next_ask_of_all(void)
+static uint64_t next_ask_of_all(void)
 {
     struct bus *bus = &process.bus;
     uint64_t moment = bus->controls.first ? bus->again : 0;
@@ -147,6 +148,12 @@ uint64_t next_ask_of_all(void)
             moment = pipe->later;
     }
     return moment;
+}
+
+/* When a device is to be asked again; 0 for never. */
+uint64_t next_ask(void)
+{
+    return process.bus.own ? next_ask_of_all() : process.bus.controls.first ? process.bus.again : 0;
 }
 
 void ask_at_once(struct device *device)

@@ -54,7 +54,7 @@ void libusb_lock_event_waiters(libusb_context *context)
 {
     lock();
     struct libusb_context *x = context_of(context);
-    __atomic_add_fetch(&x->lockers, 1, __ATOMIC_SEQ_CST);
+    x->lockers++;
     unlock();
     pthread_mutex_lock(&x->waiters);
 }
@@ -65,15 +65,22 @@ void libusb_unlock_event_waiters(libusb_context *context)
     struct libusb_context *x = context_of(context);
     unlock();
     pthread_mutex_unlock(&x->waiters);
-    __atomic_sub_fetch(&x->lockers, 1, __ATOMIC_SEQ_CST);
+    lock();
+    x->lockers--;
+    tell_leaver(x);
+    unlock();
 }
 
+/* In a context that ends nobody is told any more. */
 int libusb_wait_for_event(libusb_context *context, struct timeval *wait)
 {
     if (!lock_unless_asked())
         return LIBUSB_ERROR_BUSY;
     struct libusb_context *x = context_of(context);
+    bool is_over = !x->is_open && x != &process.nobody;
     unlock();
+    if (is_over)
+        return 0;
     if (!wait) {
         pthread_cond_wait(&x->happened, &x->waiters);
         return 0;

@@ -12,6 +12,7 @@
 #include <string.h>
 #include <sys/auxv.h>
 #include <sys/socket.h>
+#include <sys/syscall.h>
 #include <sys/wait.h>
 #include <time.h>
 #include <unistd.h>
@@ -20,7 +21,7 @@
 #define MOST_LINE 16384
 #define PATIENCE 5.0
 #define MOST_PATIENCE 1000000.0
-/* How long a program that is told to end may take, in milliseconds, and how often that is looked at. */
+/* How long a program that is told to end may take, in milliseconds; and how often that is looked at where a kernel can't tell it. */
 #define FAREWELL 1000
 #define GLANCE 5
 
@@ -336,6 +337,31 @@ static bool is_over(const struct program *it)
     return waitid(P_PID, (id_t)it->process, &told, WEXITED | WNOHANG | WNOWAIT) || told.si_pid;
 }
 
+/* A descriptor that can be read once it ended; -1 where the kernel has none (Linux before 5.3, or a filter of system calls). */
+static int watch_end(const struct program *it)
+{
+#ifdef SYS_pidfd_open
+    return (int)syscall(SYS_pidfd_open, it->process, 0);
+#else
+    (void)it;
+    return -1;
+#endif
+}
+
+/* Until it ended, or that moment. */
+static void await_end(const struct program *it, uint64_t until)
+{
+    struct pollfd poller = { .fd = watch_end(it), .events = POLLIN };
+    uint64_t moment;
+    while (!is_over(it) && (moment = clock_now()) < until) {
+        uint64_t left = until - moment, glance = GLANCE * (uint64_t)MILLISECOND;
+        struct timespec wait = moment_of(poller.fd < 0 && glance < left ? glance : left);
+        ppoll(&poller, 1, &wait, NULL);
+    }
+    if (poller.fd >= 0)
+        close(poller.fd);
+}
+
 /* What of it is left is ended with it: its children too. Where the driver reaps all its children by itself, there is nothing to be reaped. */
 static void end_group(struct program *it)
 {
@@ -358,8 +384,7 @@ void stop_programs(void)
         struct program *it = process.bus.devices[i]->program;
         if (!it || !it->process)
             continue;
-        while (!is_over(it) && clock_now() < until)
-            usleep(GLANCE * 1000);
+        await_end(it, until);
         end_group(it);
     }
 }

@@ -22,10 +22,10 @@ static void number_alone(int there[DEVICES], int device, int number)
         there[i] = i == device ? number : -1;
 }
 
-/* With the scripts of the device's text, or what is left of them in its core. */
+/* With the answers of the device's text, or what is left of them in its core. */
 static int make_session(const struct device *device, bool rests, struct session *made)
 {
-    struct tirnouch_told told = { 0 };
+    struct tirnouch_complaint complaint;
     int there[DEVICES];
     *made = (struct session){ .text = { .length = 0 } };
     number_alone(there, device->number, 0);
@@ -33,7 +33,7 @@ static int make_session(const struct device *device, bool rests, struct session 
     int r = made->text.failed ? LIBUSB_ERROR_NO_MEM : 0;
     made->text.length = without_expected(made->text.at, made->text.length);
     if (!r)
-        r = tirnouch_create(&made->slot, (const uint8_t *)made->text.at, made->text.length, &told);
+        r = tirnouch_create(&made->slot, (const uint8_t *)made->text.at, made->text.length, &complaint);
     return r;
 }
 
@@ -144,7 +144,6 @@ static void replace_session(struct device *device, struct session *made)
     core->slot = made->slot;
     core->fed = 0;
     core->sessions++;
-    expect_requests_anew(device);
     trace_begin(core, device);
     trace_devices(core, made->text.at, made->text.length);
 }
@@ -208,7 +207,6 @@ static void move(struct device *device, struct core *core, const struct session 
     leave_names(device);
     use_core(device, core);
     core->slot = made->slot;
-    expect_requests_anew(device);
     trace_begin(core, device);
     trace_devices(core, made->text.at, made->text.length);
     go_on(device);
@@ -313,6 +311,7 @@ static int begin_anew(struct device *device)
         end_flight(device);
         lose_handles(device);
         replace_session(device, &made);
+        expect_requests_anew(device);
         forget_state(device);
     }
     free(made.text.at);

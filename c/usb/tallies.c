@@ -22,19 +22,17 @@ static struct tally *tally_of(const struct device *device, struct meant meant)
     return device->tally_count ? bsearch(&key, device->tallies, device->tally_count, sizeof key, by_meant) : NULL;
 }
 
-/* The fields that aren't any: of those that are, type, number, value and index have a bit each. */
+/* The fields that aren't any; those that are have a bit of `enum tirnouch_any` each. */
 static uint64_t mask_of(unsigned any)
 {
-    const uint64_t fields[4] = { 0xff, 0xff00, 0xffff0000, 0xffff00000000 };
-    uint64_t mask = 0;
-    for (unsigned i = 0; i < 4; i++)
-        mask |= any >> i & 1 ? 0 : fields[i];
-    return mask;
+    return (any & TIRNOUCH_ANY_TYPE ? 0 : 0xffu) | (any & TIRNOUCH_ANY_REQUEST ? 0 : 0xff00u) | (any & TIRNOUCH_ANY_VALUE ? 0 : 0xffff0000u) |
+           (any & TIRNOUCH_ANY_INDEX ? 0 : (uint64_t)0xffff00000000);
 }
 
-struct meant meant_by(const struct tirnouch_told *told)
+struct meant meant_by(const struct tirnouch_gate *gate)
 {
-    return (struct meant){ .mask = mask_of(told->status), .bytes = told->payload };
+    uint64_t bytes = gate->request_type | (uint64_t)gate->request << 8 | (uint64_t)gate->value << 16 | (uint64_t)gate->index << 32;
+    return (struct meant){ .mask = mask_of(gate->any), .bytes = bytes };
 }
 
 static size_t gates_of_requests(const struct device *device)

@@ -171,6 +171,11 @@ static int submit_to_pipe(struct transfer *transfer)
     return pipe->is_stopped ? submit_to_stopped(transfer) : submit_at_endpoint(transfer);
 }
 
+static uint64_t deadline_of(unsigned milliseconds)
+{
+    return milliseconds ? now() + (uint64_t)milliseconds * 1000000u : 0;
+}
+
 /* As a new one. Its places in lists are set where it joins them. */
 static void begin_anew(struct transfer *transfer, struct libusb_device_handle *handle, uint64_t deadline)
 {

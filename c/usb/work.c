@@ -20,25 +20,25 @@ int pull_out(struct device *device)
 }
 
 /* A halted endpoint stalls without an answer of its script. */
-static void count_answer(struct pipe *pipe, const struct tirnouch_told *told)
+static void count_answer(struct pipe *pipe, const struct tirnouch_reply *reply)
 {
-    bool stalled = told->kind == TIRNOUCH_ENDED && told->status == TIRNOUCH_CODE_STALL;
+    bool stalled = reply->kind == TIRNOUCH_ENDED && reply->code == TIRNOUCH_CODE_STALL;
     if (!stalled || !pipe->is_halted)
         pipe->answers++;
-    pipe->naks += told->kind == TIRNOUCH_NAK;
+    pipe->naks += reply->kind == TIRNOUCH_NAK;
     pipe->is_halted = stalled;
 }
 
 /* One answer; whether another may follow it. */
 static bool serve_one(struct pipe *pipe)
 {
-    struct tirnouch_told told = { 0 };
-    core_serve(pipe, 1, &told);
+    struct tirnouch_reply reply = { 0 };
+    core_serve(pipe, 1, &reply);
     if (!pipe->device->is_gone)
-        count_answer(pipe, &told);
+        count_answer(pipe, &reply);
     if (is_leaving(pipe))
         leave_by_itself(pipe->device);
-    return told.kind != TIRNOUCH_ENDED;
+    return reply.kind != TIRNOUCH_ENDED;
 }
 
 /* Whether a packet does something, for which a device that computes its answer is asked first. */
@@ -52,10 +52,10 @@ static bool is_answered(struct pipe *pipe)
 /* A device answers at an endpoint, at most so many packets; whether something came of it. */
 bool serve(struct pipe *pipe, uint32_t most)
 {
-    struct tirnouch_told told = { 0 };
+    struct tirnouch_reply reply = { 0 };
     bool any = false, goes_on = true;
     if (!pipe->is_watched)
-        return core_serve(pipe, most, &told);
+        return core_serve(pipe, most, &reply);
     if (is_leaving(pipe)) {
         leave_by_itself(pipe->device);
         any = true;

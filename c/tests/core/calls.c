@@ -16,24 +16,24 @@ struct tirnouch_memory no_memory(void)
 
 int32_t create(const char *from)
 {
-    return tirnouch_create(&slot, (const uint8_t *)from, strlen(from), &told);
+    return tirnouch_create(&slot, (const uint8_t *)from, strlen(from), &last.complaint);
 }
 
 int32_t call(uint8_t verb, uint8_t h, uint8_t a, uint64_t n)
 {
-    return tirnouch_call(&slot, verb, h, a, n, &told);
+    return tirnouch_call(&slot, verb, h, a, n, &last.reply);
 }
 
 int32_t read_at(uint8_t ep, uint32_t room, uint64_t payload)
 {
-    return tirnouch_submit(&slot, 1, ep, 2, 0, 0, room, (const uint8_t *)"", 0, payload, &told);
+    return tirnouch_submit(&slot, 1, ep, 2, 0, 0, room, (const uint8_t *)"", 0, payload, &last.reply);
 }
 
 /* A result for which no memory was lent. */
 int32_t take(void)
 {
     struct tirnouch_memory back = no_memory();
-    int32_t answer = tirnouch_take(&slot, &back, &told);
+    int32_t answer = tirnouch_take(&slot, &back, &last.result);
     if (back.len)
         show("memory of nobody", &back, NULL);
     return answer;
@@ -42,5 +42,5 @@ int32_t take(void)
 int32_t turn(uint8_t dev, uint8_t ep)
 {
     struct tirnouch_memory back = no_memory();
-    return tirnouch_turn(&slot, dev, ep, 10, 100, &back, &told);
+    return tirnouch_turn(&slot, dev, ep, 10, 100, &back, &last.result);
 }

@@ -8,9 +8,10 @@
 static void complain(const char *text)
 {
     uint8_t sentence[200];
-    int32_t length = tirnouch_complain((const uint8_t *)text, strlen(text), sentence, sizeof sentence, &told);
+    int32_t length = tirnouch_complain((const uint8_t *)text, strlen(text), sentence, sizeof sentence, &last.complaint);
     if (length > 0)
-        printf("line %" PRIu64 ", %s %" PRIu32 ": %.*s\n", told.n, told.status ? "word" : "whole", told.amount, (int)length, sentence);
+        printf("line %" PRIu64 ", %s %" PRIu32 ": %.*s\n", last.complaint.line, last.complaint.has_word ? "word" : "whole", last.complaint.word,
+               (int)length, sentence);
     else
         say("complain", length);
 }
@@ -35,8 +36,8 @@ void complaints(void)
     complain(DEVICE "after 0 81 1 40 01 * * 1\nscript 0 81 n\n");
     complain(DEVICE "speed 0 full\nspeed 0 full\n");
     complain(DEVICE "driver 0 1\n");
-    say("complain with little room", tirnouch_complain((const uint8_t *)"open 1 0\n", 9, sentence, 6, &told));
+    say("complain with little room", tirnouch_complain((const uint8_t *)"open 1 0\n", 9, sentence, 6, &last.complaint));
     printf("its sentence: %s\n", (const char *)sentence);
     say("create of a line that means nothing", create(DEVICE "driver 0 1\n"));
-    printf("its line: %" PRIu64 "\n", told.n);
+    printf("its line: %" PRIu64 "\n", last.complaint.line);
 }

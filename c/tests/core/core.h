@@ -9,13 +9,34 @@
 #include <stdio.h>
 #include <string.h>
 
-/* The one session, and what its last call told. */
+/* The one session, and what its last calls filled, of each kind of answer the last one. */
 extern struct tirnouch_slot slot;
-extern struct tirnouch_told told;
+extern struct answers {
+    struct tirnouch_complaint complaint;
+    struct tirnouch_reply reply;
+    struct tirnouch_progress progress;
+    struct tirnouch_next next;
+    struct tirnouch_view view;
+    struct tirnouch_result result;
+    struct tirnouch_offer offer;
+    struct tirnouch_response response;
+    struct tirnouch_needed needed;
+    struct tirnouch_device device;
+    struct tirnouch_gate gate;
+    struct tirnouch_departure departure;
+    struct tirnouch_endpoint endpoint;
+} last;
 
 /* printing.c */
 void say(const char *call, int32_t answer);
-void tell(const char *call, int32_t answer);
+void tell_reply(const char *call, int32_t answer);
+void tell_progress(const char *call, int32_t answer);
+void tell_next(const char *call, int32_t answer);
+void tell_view(const char *call, int32_t answer);
+void tell_result(const char *call, int32_t answer);
+void tell_offer(const char *call, int32_t answer);
+void tell_response(const char *call, int32_t answer);
+void tell_needed(const char *call, int32_t answer);
 void bytes(const char *call, int32_t answer, const uint8_t *data, size_t count);
 void show_bytes(const uint8_t *at, size_t count);
 void show(const char *whose, const struct tirnouch_memory *memory, const uint8_t *place);
@@ -39,6 +60,10 @@ void transfers(void);
 /* requests.c */
 void requests(void);
 void plain_requests(void);
+
+/* descriptions.c: of the desk, and of a device with more than it */
+void descriptions(void);
+void other_descriptions(void);
 
 /* complaints.c, lending.c and feeding.c, each with sessions of its own */
 void complaints(void);

@@ -10,7 +10,7 @@ static void offer(uint8_t ep, size_t room)
 {
     uint8_t data[16];
     memset(data, 0xee, sizeof data);
-    tell("offer", tirnouch_offer(&slot, 0, ep, data, room, &told));
+    tell_offer("offer", tirnouch_offer(&slot, 0, ep, data, room, &last.offer));
     if (ep == 0x02)
         show_bytes(data, 12);
 }
@@ -30,7 +30,7 @@ static void feed_in_vain(void)
     say("feed device 1", tirnouch_feed(&slot, 1, 0x81, 2, many, 0));
     say("feed device 4", tirnouch_feed(&slot, 4, 0x81, 2, many, 0));
     say("feed 2049 bytes", tirnouch_feed(&slot, 0, 0x81, 0, many, sizeof many));
-    tell("offer of device 4", tirnouch_offer(&slot, 4, 0x81, (uint8_t[]){ 0 }, 1, &told));
+    tell_offer("offer of device 4", tirnouch_offer(&slot, 4, 0x81, (uint8_t[]){ 0 }, 1, &last.offer));
 }
 
 /* A read of two packets, each fed when it is next; the device isn't asked where it has an answer. */
@@ -38,16 +38,16 @@ static void feed_a_read(void)
 {
     uint8_t data[10];
     offer(0x81, 0);
-    tell("read of 10", read_at(0x81, 10, 7));
+    tell_reply("read of 10", read_at(0x81, 10, 7));
     offer(0x81, 0);
     feed_in_vain();
     offer(0x81, 0);
     say("feed 8 bytes", feed(0x81, 0, "abcdefgh"));
     offer(0x81, 0);
-    tell("serve", tirnouch_serve(&slot, 0, 0x81, 1, &told));
+    tell_reply("serve", tirnouch_serve(&slot, 0, 0x81, 1, &last.reply));
     offer(0x81, 0);
     say("feed 2 bytes", feed(0x81, 0, "ij"));
-    tell("turn", turn(0, 0x81));
+    tell_result("turn", turn(0, 0x81));
     bytes("fetch", tirnouch_fetch(&slot, data, sizeof data), data, 10);
     offer(0x81, 0);
 }
@@ -55,15 +55,15 @@ static void feed_a_read(void)
 static void feed_a_write(void)
 {
     uint8_t data[8];
-    tell("write of 11", tirnouch_submit(&slot, 1, 0x02, 2, 0, 0, 0, (const uint8_t *)"ABCDEFGHIJK", 11, 8, &told));
+    tell_reply("write of 11", tirnouch_submit(&slot, 1, 0x02, 2, 0, 0, 0, (const uint8_t *)"ABCDEFGHIJK", 11, 8, &last.reply));
     offer(0x02, 16);
     offer(0x02, 3);
     say("feed taken", feed(0x02, 1, ""));
-    tell("serve", tirnouch_serve(&slot, 0, 0x02, 1, &told));
+    tell_reply("serve", tirnouch_serve(&slot, 0, 0x02, 1, &last.reply));
     offer(0x02, 16);
     say("feed not ready", feed(0x02, 2, ""));
     say("feed taken", feed(0x02, 1, ""));
-    tell("turn", turn(0, 0x02));
+    tell_result("turn", turn(0, 0x02));
     bytes("taken 0", tirnouch_taken(&slot, 0, 0x02, 0, data, sizeof data), data, 8);
     bytes("taken 1", tirnouch_taken(&slot, 0, 0x02, 1, data, sizeof data), data, 3);
 }
@@ -71,19 +71,19 @@ static void feed_a_write(void)
 /* While the device is halted it isn't asked, and what it was fed waits; once it is gone it isn't asked any more. */
 static void feed_a_stall(void)
 {
-    tell("read of 8", read_at(0x81, 8, 9));
+    tell_reply("read of 8", read_at(0x81, 8, 9));
     say("feed a stall", feed(0x81, 3, ""));
-    tell("turn", turn(0, 0x81));
-    tell("read of 8", read_at(0x81, 8, 10));
+    tell_result("turn", turn(0, 0x81));
+    tell_reply("read of 8", read_at(0x81, 8, 10));
     offer(0x81, 0);
     say("feed a broken transaction", feed(0x81, 4, ""));
-    tell("turn", turn(0, 0x81));
-    tell("clear halt 81", call(TIRNOUCH_CLEAR_HALT, 1, 0x81, 0));
-    tell("read of 8", read_at(0x81, 8, 11));
-    tell("turn", turn(0, 0x81));
-    tell("read of 8", read_at(0x81, 8, 12));
+    tell_result("turn", turn(0, 0x81));
+    tell_reply("clear halt 81", call(TIRNOUCH_CLEAR_HALT, 1, 0x81, 0));
+    tell_reply("read of 8", read_at(0x81, 8, 11));
+    tell_result("turn", turn(0, 0x81));
+    tell_reply("read of 8", read_at(0x81, 8, 12));
     offer(0x81, 0);
-    tell("unplug 0", call(TIRNOUCH_UNPLUG, 0, 0, 0));
+    tell_reply("unplug 0", call(TIRNOUCH_UNPLUG, 0, 0, 0));
     offer(0x81, 0);
     say("feed 1 byte", feed(0x81, 0, "z"));
 }
@@ -92,8 +92,8 @@ void feeding(void)
 {
     say("create", create(living));
     offer(0x81, 0);
-    tell("open 1 0", call(TIRNOUCH_OPEN, 1, 0, 0));
-    tell("claim 1 0", call(TIRNOUCH_CLAIM, 1, 0, 0));
+    tell_reply("open 1 0", call(TIRNOUCH_OPEN, 1, 0, 0));
+    tell_reply("claim 1 0", call(TIRNOUCH_CLAIM, 1, 0, 0));
     feed_a_read();
     feed_a_write();
     feed_a_stall();

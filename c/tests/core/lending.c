@@ -9,7 +9,7 @@ static const char meter[] =
 /* A read straight into this memory. */
 static int32_t lend(uint8_t ep, uint8_t kind, struct tirnouch_memory *memory, uint64_t payload)
 {
-    return tirnouch_submit_in(&slot, 1, ep, kind, 0, 0, memory, payload, &told);
+    return tirnouch_submit_in(&slot, 1, ep, kind, 0, 0, memory, payload, &last.reply);
 }
 
 static void lend_in_vain(void)
@@ -18,7 +18,7 @@ static void lend_in_vain(void)
     struct tirnouch_memory memory = filled_with_ee(data, sizeof data);
     say("lend for kind 9", lend(0x81, 9, &memory, 20));
     show("its memory", &memory, data);
-    tell("lend for endpoint 82", lend(0x82, 2, &memory, 20));
+    tell_reply("lend for endpoint 82", lend(0x82, 2, &memory, 20));
     show("its memory", &memory, data);
     say("lend for OUT", lend(0x02, 2, &memory, 20));
     show("its memory", &memory, data);
@@ -30,12 +30,12 @@ static void lend_one(void)
     uint8_t data[12];
     struct tirnouch_memory memory = filled_with_ee(data, sizeof data), back = no_memory();
     memory.len = 8;
-    tell("lend 8", lend(0x81, 2, &memory, 20));
+    tell_reply("lend 8", lend(0x81, 2, &memory, 20));
     printf("its len: %zu\n", memory.len);
-    tell("serve", tirnouch_serve(&slot, 0, 0x81, 1, &told));
+    tell_reply("serve", tirnouch_serve(&slot, 0, 0x81, 1, &last.reply));
     show_bytes(data, sizeof data);
-    say("settle", tirnouch_settle(&slot, 0, 100, &told));
-    tell("take", tirnouch_take(&slot, &back, &told));
+    say("settle", tirnouch_settle(&slot, 0, 100, &last.progress));
+    tell_result("take", tirnouch_take(&slot, &back, &last.result));
     show("back", &back, data);
     say("fetch", tirnouch_fetch(&slot, data, sizeof data));
     show_bytes(data, sizeof data);
@@ -44,7 +44,7 @@ static void lend_one(void)
 static void take_back(const uint8_t *place, size_t len)
 {
     struct tirnouch_memory back = no_memory();
-    tell("take", tirnouch_take(&slot, &back, &told));
+    tell_result("take", tirnouch_take(&slot, &back, &last.result));
     show("back", &back, place);
     show_bytes(place, len);
 }
@@ -54,11 +54,11 @@ static void lend_two(void)
 {
     uint8_t data[8], more[8];
     struct tirnouch_memory first = filled_with_ee(data, sizeof data), second = filled_with_ee(more, sizeof more);
-    tell("lend 8", lend(0x81, 2, &first, 21));
-    tell("lend 8 more", lend(0x81, 2, &second, 22));
-    tell("serve", tirnouch_serve(&slot, 0, 0x81, 1, &told));
-    tell("serve", tirnouch_serve(&slot, 0, 0x81, 1, &told));
-    say("settle", tirnouch_settle(&slot, 0, 100, &told));
+    tell_reply("lend 8", lend(0x81, 2, &first, 21));
+    tell_reply("lend 8 more", lend(0x81, 2, &second, 22));
+    tell_reply("serve", tirnouch_serve(&slot, 0, 0x81, 1, &last.reply));
+    tell_reply("serve", tirnouch_serve(&slot, 0, 0x81, 1, &last.reply));
+    say("settle", tirnouch_settle(&slot, 0, 100, &last.progress));
     take_back(data, sizeof data);
     take_back(more, sizeof more);
     say("take again", take());
@@ -68,10 +68,10 @@ static void lend_and_cancel(void)
 {
     uint8_t data[20];
     struct tirnouch_memory memory = filled_with_ee(data, sizeof data);
-    tell("lend 20", lend(0x81, 2, &memory, 23));
-    tell("serve", tirnouch_serve(&slot, 0, 0x81, 1, &told));
-    tell("cancel 1 3", call(TIRNOUCH_CANCEL, 1, 0, 3));
-    say("settle", tirnouch_settle(&slot, 0, 100, &told));
+    tell_reply("lend 20", lend(0x81, 2, &memory, 23));
+    tell_reply("serve", tirnouch_serve(&slot, 0, 0x81, 1, &last.reply));
+    tell_reply("cancel 1 3", call(TIRNOUCH_CANCEL, 1, 0, 3));
+    say("settle", tirnouch_settle(&slot, 0, 100, &last.progress));
     take_back(data, sizeof data);
 }
 
@@ -79,8 +79,8 @@ static void lend_in_turn(void)
 {
     uint8_t data[4];
     struct tirnouch_memory memory = filled_with_ee(data, sizeof data), back = no_memory();
-    tell("lend 4", lend(0x81, 2, &memory, 24));
-    tell("turn", tirnouch_turn(&slot, 0, 0x81, 10, 100, &back, &told));
+    tell_reply("lend 4", lend(0x81, 2, &memory, 24));
+    tell_result("turn", tirnouch_turn(&slot, 0, 0x81, 10, 100, &back, &last.result));
     show("back", &back, data);
     show_bytes(data, sizeof data);
 }
@@ -91,14 +91,14 @@ void lending(void)
     uint8_t data[8];
     struct tirnouch_memory memory = filled_with_ee(data, sizeof data);
     say("create", create(meter));
-    tell("open 1 0", call(TIRNOUCH_OPEN, 1, 0, 0));
-    tell("claim 1 0", call(TIRNOUCH_CLAIM, 1, 0, 0));
+    tell_reply("open 1 0", call(TIRNOUCH_OPEN, 1, 0, 0));
+    tell_reply("claim 1 0", call(TIRNOUCH_CLAIM, 1, 0, 0));
     lend_in_vain();
     lend_one();
     lend_two();
     lend_and_cancel();
     lend_in_turn();
-    tell("lend 8", lend(0x81, 2, &memory, 25));
+    tell_reply("lend 8", lend(0x81, 2, &memory, 25));
     say("destroy", tirnouch_destroy(&slot));
     say("lend to an empty slot", lend(0x81, 2, &(struct tirnouch_memory){ .at = data, .len = sizeof data }, 26));
 }

@@ -2,15 +2,17 @@
 #include "core.h"
 
 struct tirnouch_slot slot;
-struct tirnouch_told told;
+struct answers last;
 
 int main(void)
 {
     begin_desk();
     transfers();
     requests();
+    descriptions();
     end_desk();
     plain_requests();
+    other_descriptions();
     complaints();
     lending();
     feeding();

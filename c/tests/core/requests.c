@@ -9,18 +9,18 @@ static const char plain[] =
 static void request(const char *what, const char *setup)
 {
     uint8_t data[18];
-    int32_t answer = tirnouch_request(&slot, 0, (const uint8_t *)setup, data, sizeof data, &told);
-    tell(what, answer);
-    if (told.kind == TIRNOUCH_CALLED && told.amount && (setup[0] & 0x80))
-        bytes("  data", answer, data, told.amount);
+    int32_t answer = tirnouch_request(&slot, 0, (const uint8_t *)setup, data, sizeof data, &last.response);
+    tell_response(what, answer);
+    if (last.response.is_ready && last.response.actual_length && (setup[0] & 0x80))
+        bytes("  data", answer, data, last.response.actual_length);
 }
 
 static void needs(const char *what, const char *setup)
 {
-    tell(what, tirnouch_needs((const uint8_t *)setup, &told));
+    tell_needed(what, tirnouch_needs((const uint8_t *)setup, &last.needed));
 }
 
-static void desk_requests(void)
+void requests(void)
 {
     needs("class request to interface 3", "\xa1\x01\x00\x00\x03\x00\x00\x00");
     needs("class request to endpoint 81", "\x22\x01\x00\x00\x81\x00\x00\x00");
@@ -38,26 +38,7 @@ static void desk_requests(void)
     request("set configuration 2", "\x00\x09\x02\x00\x00\x00\x00\x00");
 }
 
-static void descriptions(void)
-{
-    uint8_t data[4];
-    bytes("describe the configuration", tirnouch_describe(&slot, 0, 2, 0, data, sizeof data), data, 4);
-    say("describe string 9", tirnouch_describe(&slot, 0, 3, 9, data, sizeof data));
-    tell("speed", tirnouch_tell(&slot, 0, 0, 0, &told));
-    tell("driver 0", tirnouch_tell(&slot, 0, 1, 0, &told));
-    tell("driver 1", tirnouch_tell(&slot, 0, 1, 1, &told));
-    tell("gate 0", tirnouch_tell(&slot, 0, 2, 0, &told));
-    tell("gate 1", tirnouch_tell(&slot, 0, 2, 1, &told));
-    tell("gate 2", tirnouch_tell(&slot, 0, 2, 2, &told));
-}
-
-void requests(void)
-{
-    desk_requests();
-    descriptions();
-}
-
-/* Of a device without strings; and which requests a line of the text answered, told in n. */
+/* Of a device without strings; and which requests a line of the text answered. */
 void plain_requests(void)
 {
     uint8_t data[4];

@@ -26,20 +26,20 @@ static void slots(void)
     say("destroy an empty slot", tirnouch_destroy(&slot));
     say("call an empty slot", call(TIRNOUCH_OPEN, 1, 0, 0));
     say("create of a bad line", create(bad));
-    printf("its line: %" PRIu64 "\n", told.n);
+    printf("its line: %" PRIu64 "\n", last.complaint.line);
     say("create", create(desk));
     say("create again", create(desk));
 }
 
 static void calls(void)
 {
-    tell("open 1 0", call(TIRNOUCH_OPEN, 1, 0, 0));
-    tell("open 64 0", call(TIRNOUCH_OPEN, 64, 0, 0));
-    tell("open 2 3", call(TIRNOUCH_OPEN, 2, 3, 0));
-    tell("claim 1 0", call(TIRNOUCH_CLAIM, 1, 0, 0));
-    tell("claim 2 0", call(TIRNOUCH_CLAIM, 2, 0, 0));
-    tell("cancel 1 7", call(TIRNOUCH_CANCEL, 1, 0, 7));
-    tell("verb 9", call(9, 1, 0, 0));
+    tell_reply("open 1 0", call(TIRNOUCH_OPEN, 1, 0, 0));
+    tell_reply("open 64 0", call(TIRNOUCH_OPEN, 64, 0, 0));
+    tell_reply("open 2 3", call(TIRNOUCH_OPEN, 2, 3, 0));
+    tell_reply("claim 1 0", call(TIRNOUCH_CLAIM, 1, 0, 0));
+    tell_reply("claim 2 0", call(TIRNOUCH_CLAIM, 2, 0, 0));
+    tell_reply("cancel 1 7", call(TIRNOUCH_CANCEL, 1, 0, 7));
+    tell_reply("verb 9", call(9, 1, 0, 0));
 }
 
 void begin_desk(void)
@@ -50,6 +50,6 @@ void begin_desk(void)
 
 void end_desk(void)
 {
-    tell("unplug 0", call(TIRNOUCH_UNPLUG, 0, 0, 0));
+    tell_reply("unplug 0", call(TIRNOUCH_UNPLUG, 0, 0, 0));
     say("destroy", tirnouch_destroy(&slot));
 }

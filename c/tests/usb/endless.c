@@ -104,6 +104,13 @@ static void write_all(unsigned char *data)
     number("  moved", moved);
 }
 
+static void ask(void)
+{
+    unsigned char byte;
+    answer("request", libusb_control_transfer(handle, 0xc0, 1, 0, 0, &byte, 1, 1000));
+    bytes("  of", &byte, 1);
+}
+
 static void read_once(void)
 {
     unsigned char data[8] = { 0 };
@@ -112,7 +119,8 @@ static void read_once(void)
     bytes("  of", data, moved);
 }
 
-/* A session ends amid a write of many packets, while 81 is halted, and has two packets of its script left at 83. */
+/* A session ends amid a write of many packets, while 81 is halted, and has two packets of its script left at 83, and two answers to a
+ * request. */
 static void amid_a_write(void)
 {
     unsigned char *data = calloc(1, SIZE), four[8];
@@ -122,7 +130,9 @@ static void amid_a_write(void)
     tirnouch_on_packet(0, 0x02, take, NULL);
     hear_errors();
     begin("a session that ends amid a write, at a halt",
-          "script 0 83 d:01 d:02 d:03\nafter 0 83 1 02 3\nscript 0 02 a:0000000000000000 a:00000000000000ff\n");
+          "script 0 83 d:01 d:02 d:03\nafter 0 83 1 02 3\nscript 0 02 a:0000000000000000 a:00000000000000ff\n"
+          "control 0 c0 01 0000 0000 d:b0 d:b1 d:b2\n");
+    ask();
     read_once();
     answer("script", libusb_interrupt_transfer(handle, 0x83, four, 8, &moved, 1000));
     bytes("  of", four, moved);
@@ -134,6 +144,8 @@ static void amid_a_write(void)
         answer("script", libusb_interrupt_transfer(handle, 0x83, four, 8, &moved, 1000));
         bytes("  of", four, moved);
     }
+    for (int i = 0; i < 3; i++)
+        ask();
     number("first packet", tirnouch_took(0, 0x02, 0, NULL, 0));
     number("last packet", tirnouch_took(0, 0x02, SIZE / 8 - 1, NULL, 0));
     number("behind it", tirnouch_took(0, 0x02, SIZE / 8, NULL, 0));

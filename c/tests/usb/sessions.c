@@ -228,6 +228,46 @@ static void alive_later(void)
     forget();
 }
 
+static void ask(void)
+{
+    unsigned char data[4];
+    int count = libusb_control_transfer(handle, 0xc0, 1, 0, 0, data, sizeof data, 1000);
+    answer("request", count);
+    if (count > 0)
+        bytes("  of", data, count);
+}
+
+static void write_request(unsigned char byte)
+{
+    answer("written", libusb_control_transfer(handle, 0x40, 2, 0, 0, &byte, 1, 1000));
+}
+
+/* Answers to requests go on where the device moves into a core of its own, and what is expected of them; plugged in again it begins anew. */
+static void requests_go_on(void)
+{
+    hear_errors();
+    begin("requests are answered in order, before and behind a first function",
+          "control 0 c0 01 * 0000 d:b0 d:b1 d:b2\ncontrol 0 40 02 0000 0000 a:01 a:02 a:03\ncontrol 0 c0 03 * * d:c0 s\n");
+    ask();
+    ask();
+    write_request(1);
+    write_request(2);
+    answer("set", tirnouch_on_packet(0, 0x02, take, NULL));
+    ask();
+    ask();
+    write_request(3);
+    answer("pull", tirnouch_pull(0));
+    answer("show", tirnouch_show(0));
+    libusb_close(handle);
+    handle = open_standard(context);
+    ask();
+    ask();
+    write_request(1);
+    end();
+    show_errors();
+    forget();
+}
+
 /* A loader takes its firmware by vendor requests, as fxload sends it; the last one starts it, and the device leaves. */
 static unsigned char firmware[64];
 static int loaded, answers_gone;
@@ -339,6 +379,7 @@ int main(void)
     replugs_unseen();
     scripted();
     alive_later();
+    requests_go_on();
     comes_back(0);
     comes_back(1);
     sixteen();

@@ -10,5 +10,6 @@ pub mod Steps
 pub mod Requested
 pub mod Outs
 pub mod Looks
+pub mod Configured
 pub mod Submitting
 pub mod Living

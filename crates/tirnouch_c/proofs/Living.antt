@@ -72,9 +72,9 @@ submission h payload request (reply.Called x) s t made setup w shows = absurd ma
 -- each call does to the core what its contract says
 does : (x : Deed) (s t : Session) → Does x s t → rows.Does x s.core t.core
 unfolding world_from
-does _ _ _ (steps step answer told s t made) = λ setup w shows. (made.0 setup w shows).2
-does _ _ _ (serves dev ep most told s t row) = λ setup w shows. subst (λ (v : World). ShowsWorld setup t.core v) (served_is setup dev ep w told.amount) (row.shows setup w shows)
-does _ _ _ (settles packets most told s t row) = λ setup w shows. subst (λ (v : World). ShowsWorld setup t.core v) (worked_is setup packets w told.amount) (row.shows setup w shows)
+does _ _ _ (steps step answer reply s t made) = λ setup w shows. (made.0 setup w shows).2
+does _ _ _ (serves dev ep most reply s t row) = λ setup w shows. subst (λ (v : World). ShowsWorld setup t.core v) (served_is setup dev ep w reply.packets) (row.shows setup w shows)
+does _ _ _ (settles packets most progress s t row) = λ setup w shows. subst (λ (v : World). ShowsWorld setup t.core v) (worked_is setup packets w progress.steps) (row.shows setup w shows)
 does _ _ _ (submits h payload request reply s t made) = submission h payload request reply s.core t.core made
 does _ _ _ (takes result s t out) = λ setup w shows. out.shows setup w shows
 does _ _ _ (feeds dev ep a s t fed) = fed.1

@@ -9,13 +9,14 @@ use Rattle.usb_model.specs.declared.step.Step.{Step}
 use Rattle.usb_model.specs.declared.step.Step.TheVariants.{Serve}
 use Rattle.usb_model.specs.Setup.{Setup}
 use Rattle.usb_model.specs.World.{World, turn}
+use Rattle.tirnouch_c.specs.declared.replies.StepReply.{StepReply}
 use Rattle.tirnouch_c.specs.declared.session.Session.{Session}
-use Rattle.tirnouch_c.specs.declared.told.Told.{Told}
+use Rattle.tirnouch_c.specs.declared.settling.SettleProgress.{SettleProgress}
 use Rattle.tirnouch_c.specs.Calls.{SameBeside}
 use Rattle.tirnouch_c.specs.Packets.{Serves, ServesRow, ends_nothing, entry_behind, goes_on, served}
 use Rattle.tirnouch_c.specs.Settling.{Advances, NoneAsked, Settles, behind_step, is_something, next_step, worked}
 use Rattle.tirnouch_c.proofs.Quiet.{quiet_ends}
-use Rattle.tirnouch_c.specs.Told.{bit, of_kind, reply_told, told_by, told_of}
+use Rattle.tirnouch_c.specs.Replies.{bit, entry_numbers, owner_numbers, reply_numbers}
 
 -- where an endpoint may be served once more, its packet ended nothing
 pub goes : (ready : Bool) (reply : Reply) → goes_on ready reply ≡ true → ends_nothing reply ≡ true
@@ -33,8 +34,8 @@ goes ready (Settled ep errand ok) on = on
 goes ready (Called r) on = on
 
 -- where it may not, no packet just moved bytes
-stops_by : (ready : Bool) (h : ℕ) (reply : Reply) → goes_on ready reply ≡ false → (reply_told h reply).kind ≡ 5 → ⊥
-unfolding reply_told
+stops_by : (ready : Bool) (h : ℕ) (reply : Reply) → goes_on ready reply ≡ false → (reply_numbers h reply).kind ≡ 5 → ⊥
+unfolding reply_numbers
 stops_by ready h (Moved n bytes) on five = cc
 stops_by ready h (Nak n) on five = absurd (omega (arith, five))
 stops_by ready h Done on five = absurd (omega (arith, five))
@@ -48,7 +49,7 @@ stops_by ready h (Paused n) on five = absurd (omega (arith, five))
 stops_by ready h (Settled ep errand ok) on five = absurd (omega (arith, five))
 stops_by ready h (Called r) on five = absurd (omega (arith, five))
 
-pub stops : (ready : Bool) (owner : Option ℕ) (reply : Reply) → goes_on ready reply ≡ false → (told_by owner reply).kind ≡ 5 → ⊥
+pub stops : (ready : Bool) (owner : Option ℕ) (reply : Reply) → goes_on ready reply ≡ false → (owner_numbers owner reply).kind ≡ 5 → ⊥
 stops ready None reply on five = stops_by ready 255 reply on five
 stops ready (Some h) reply on five = stops_by ready h reply on five
 
@@ -61,18 +62,18 @@ at_or_before k n low = by_test (nat_lt k n) refl
     by_test false is = inr (let le = ltb-false k n is in omega (arith, le, low))
 
 -- so many packets, of which none ended a transfer
-pub record Going (dev ep done : ℕ) (told : Told) (s t : Session) : Type 0 where
-  pub amount : told.amount ≡ done
+pub record Going (dev ep done : ℕ) (reply : StepReply) (s t : Session) : Type 0 where
+  pub amount : reply.packets ≡ done
   pub shows : (setup : Setup) (w : World) → ShowsWorld setup s.core w → ShowsWorld setup t.core (served setup dev ep w done)
-  pub last : (setup : Setup) (w : World) (k : ℕ) → ShowsWorld setup s.core w → done ≡ suc k → told ≡ record (told_of (entry_behind setup dev ep w k)) { amount = suc k }
+  pub last : (setup : Setup) (w : World) (k : ℕ) → ShowsWorld setup s.core w → done ≡ suc k → reply ≡ record (entry_numbers (entry_behind setup dev ep w k)) { packets = suc k }
   pub goes : (setup : Setup) (w : World) (k : ℕ) → ShowsWorld setup s.core w → k < done → ends_nothing (entry_behind setup dev ep w k).reply ≡ true
   pub carries : StillCarries s.core t.core
   pub same : SameBeside s t
 
 -- none yet
-pub none_yet : (dev ep : ℕ) (told : Told) (s : Session) → told.amount ≡ 0 → Going dev ep 0 told s s
+pub none_yet : (dev ep : ℕ) (reply : StepReply) (s : Session) → reply.packets ≡ 0 → Going dev ep 0 reply s s
 unfolding served
-none_yet dev ep told s none = record {
+none_yet dev ep reply s none = record {
   amount = none;
   shows = λ setup w shows. shows;
   last = λ setup w k shows is. absurd (omega (arith, is));
@@ -104,23 +105,23 @@ served_on setup dev ep w a (suc b) =
     let same : suc (a + b) ≡ a + suc b = omega arith in
     ap (λ (v : World). (turn setup v (Serve dev ep)).world) (served_on setup dev ep w a b) ∙ ap (λ (n : ℕ). served setup dev ep w n) same
 
-module _ (dev ep done rest : ℕ) (told one : Told) (further : Bool) (s mid t : Session) (so_far : Going dev ep done told s mid) (row : ServesRow dev ep rest (one, further) mid t) where
+module _ (dev ep done rest : ℕ) (reply one : StepReply) (further : Bool) (s mid t : Session) (so_far : Going dev ep done reply s mid) (row : ServesRow dev ep rest (one, further) mid t) where
   -- the world behind a row more
-  shown : (setup : Setup) (w : World) → ShowsWorld setup s.core w → ShowsWorld setup t.core (served setup dev ep w (done + one.amount))
-  shown setup w shows = subst (λ (v : World). ShowsWorld setup t.core v) (served_on setup dev ep w done one.amount) (row.shows setup (served setup dev ep w done) (so_far.shows setup w shows))
+  shown : (setup : Setup) (w : World) → ShowsWorld setup s.core w → ShowsWorld setup t.core (served setup dev ep w (done + one.packets))
+  shown setup w shows = subst (λ (v : World). ShowsWorld setup t.core v) (served_on setup dev ep w done one.packets) (row.shows setup (served setup dev ep w done) (so_far.shows setup w shows))
 
   -- the entry of a packet of the row
   entry_on : (setup : Setup) (w : World) (j k : ℕ) → done + j ≡ k → entry_behind setup dev ep (served setup dev ep w done) j ≡ entry_behind setup dev ep w k
   entry_on setup w j k at = ap (λ (v : World). (turn setup v (Serve dev ep)).entry) (served_on setup dev ep w done j) ∙ ap (λ (n : ℕ). entry_behind setup dev ep w n) at
 
-  last_is : (setup : Setup) (w : World) (k : ℕ) → ShowsWorld setup s.core w → done + one.amount ≡ suc k → record one { amount = suc k } ≡ record (told_of (entry_behind setup dev ep w k)) { amount = suc k }
+  last_is : (setup : Setup) (w : World) (k : ℕ) → ShowsWorld setup s.core w → done + one.packets ≡ suc k → record one { packets = suc k } ≡ record (entry_numbers (entry_behind setup dev ep w k)) { packets = suc k }
   last_is setup w k shows is =
-      let some = one_of_some one.amount row.some in
-      ap (λ (x : Told). record x { amount = suc k }) (row.last setup (served setup dev ep w done) some.0 (so_far.shows setup w shows) some.1)
-      ∙ ap (λ (e : Entry). record (told_of e) { amount = suc k }) (entry_on setup w some.0 k (omega (arith, is, some.1)))
+      let some = one_of_some one.packets row.some in
+      ap (λ (x : StepReply). record x { packets = suc k }) (row.last setup (served setup dev ep w done) some.0 (so_far.shows setup w shows) some.1)
+      ∙ ap (λ (e : Entry). record (entry_numbers e) { packets = suc k }) (entry_on setup w some.0 k (omega (arith, is, some.1)))
 
   -- a packet of which none ended a transfer, but perhaps the last of the row
-  before_last : (setup : Setup) (w : World) (k : ℕ) → ShowsWorld setup s.core w → suc k < done + one.amount → ends_nothing (entry_behind setup dev ep w k).reply ≡ true
+  before_last : (setup : Setup) (w : World) (k : ℕ) → ShowsWorld setup s.core w → suc k < done + one.packets → ends_nothing (entry_behind setup dev ep w k).reply ≡ true
   before_last setup w k shows low = by_place (place_of done k)
     where
       by_place : (k < done) ⊎ ((j : ℕ) × (done + j ≡ k)) → ends_nothing (entry_behind setup dev ep w k).reply ≡ true
@@ -128,13 +129,13 @@ module _ (dev ep done rest : ℕ) (told one : Told) (further : Bool) (s mid t : 
       by_place (inr at) = subst (λ (e : Entry). ends_nothing e.reply ≡ true) (entry_on setup w at.0 k at.1) (row.before setup (served setup dev ep w done) at.0 (so_far.shows setup w shows) (omega (arith, low, at.1)))
 
   -- nor the last, where the endpoint may be served once more
-  none_ended : (setup : Setup) (w : World) (k : ℕ) → ShowsWorld setup s.core w → further ≡ true → k < done + one.amount → ends_nothing (entry_behind setup dev ep w k).reply ≡ true
-  none_ended setup w k shows on low = by_place (place_of (suc k) (done + one.amount))
+  none_ended : (setup : Setup) (w : World) (k : ℕ) → ShowsWorld setup s.core w → further ≡ true → k < done + one.packets → ends_nothing (entry_behind setup dev ep w k).reply ≡ true
+  none_ended setup w k shows on low = by_place (place_of (suc k) (done + one.packets))
     where
-      by_place : (done + one.amount < suc k) ⊎ ((j : ℕ) × (suc k + j ≡ done + one.amount)) → ends_nothing (entry_behind setup dev ep w k).reply ≡ true
+      by_place : (done + one.packets < suc k) ⊎ ((j : ℕ) × (suc k + j ≡ done + one.packets)) → ends_nothing (entry_behind setup dev ep w k).reply ≡ true
       by_place (inl lower) = absurd (omega (arith, low, lower))
       by_place (inr (zero, at)) =
-          let some = one_of_some one.amount row.some in
+          let some = one_of_some one.packets row.some in
           subst (λ (e : Entry). ends_nothing e.reply ≡ true) (entry_on setup w some.0 k (omega (arith, at, some.1))) (row.further setup (served setup dev ep w done) some.0 (so_far.shows setup w shows) on some.1)
       by_place (inr (suc j, at)) = before_last setup w k shows (omega (arith, at))
 
@@ -145,23 +146,23 @@ module _ (dev ep done rest : ℕ) (told one : Told) (further : Bool) (s mid t : 
   same_beside = (row.same.0 ∙ so_far.same.0, row.same.1 ∙ so_far.same.1)
 
   -- a row more, which ended nothing
-  pub row_more : (next : ℕ) → next ≡ done + one.amount → further ≡ true → Going dev ep next (record one { amount = next }) s t
-  row_more next is on = subst (λ (n : ℕ). Going dev ep n (record one { amount = n }) s t) (sym is) (record {
+  pub row_more : (next : ℕ) → next ≡ done + one.packets → further ≡ true → Going dev ep next (record one { packets = next }) s t
+  row_more next is on = subst (λ (n : ℕ). Going dev ep n (record one { packets = n }) s t) (sym is) (record {
     amount = refl;
     shows = shown;
-    last = λ setup w k shows at. ap (λ (n : ℕ). record one { amount = n }) at ∙ last_is setup w k shows at;
+    last = λ setup w k shows at. ap (λ (n : ℕ). record one { packets = n }) at ∙ last_is setup w k shows at;
     goes = λ setup w k shows low. none_ended setup w k shows on low;
     carries = still;
     same = same_beside;
   })
 
   -- the last row
-  pub last_row : (most next : ℕ) → next ≡ done + one.amount → next ≤ most → further ≡ false → Serves dev ep most (record one { amount = next }) s t
-  last_row most next is within off = subst (λ (n : ℕ). Serves dev ep most (record one { amount = n }) s t) (sym is) (record {
+  pub last_row : (most next : ℕ) → next ≡ done + one.packets → next ≤ most → further ≡ false → Serves dev ep most (record one { packets = next }) s t
+  last_row most next is within off = subst (λ (n : ℕ). Serves dev ep most (record one { packets = n }) s t) (sym is) (record {
     within = omega (arith, within, is);
     begun = λ none. let some = row.some in absurd (omega (arith, none, some));
     shows = shown;
-    last = λ setup w k shows at. ap (λ (n : ℕ). record one { amount = n }) at ∙ last_is setup w k shows at;
+    last = λ setup w k shows at. ap (λ (n : ℕ). record one { packets = n }) at ∙ last_is setup w k shows at;
     before = before_last;
     stops = λ fewer five. row.stops off five;
     carries = still;
@@ -169,8 +170,8 @@ module _ (dev ep done rest : ℕ) (told one : Told) (further : Bool) (s mid t : 
   })
 
 -- as many as were wanted
-pub all_of_them : (dev ep most : ℕ) (told : Told) (s t : Session) → Going dev ep most told s t → Serves dev ep most told s t
-all_of_them dev ep most told s t so_far = record {
+pub all_of_them : (dev ep most : ℕ) (reply : StepReply) (s t : Session) → Going dev ep most reply s t → Serves dev ep most reply s t
+all_of_them dev ep most reply s t so_far = record {
   within = omega (arith, so_far.amount);
   begun = λ none. sym so_far.amount ∙ none;
   shows = λ setup w shows. subst (λ (n : ℕ). ShowsWorld setup t.core (served setup dev ep w n)) (sym so_far.amount) (so_far.shows setup w shows);
@@ -232,13 +233,13 @@ no_step_more packets done s mid t so_far advanced same = record {
 }
 
 -- where it ends: nothing was to be done any more where it was last, or as many were made as were wanted
-pub settled : (packets quiet : Bool) (most done : ℕ) (s mid t : Session) (told : Told) → Working packets done s mid → Working packets done s t → done ≤ most → (quiet ≡ true → IsQuiet packets mid) → (quiet ≡ false → done ≡ most)
-    → told ≡ record (of_kind 255 0) { amount = done; status = bit quiet } → Settles packets most told s t
-settled packets quiet most done s mid t told before so_far within none whole told_is =
-    let amount : told.amount ≡ done = ap (λ (x : Told). x.amount) told_is in
+pub settled : (packets quiet : Bool) (most done : ℕ) (s mid t : Session) (progress : SettleProgress) → Working packets done s mid → Working packets done s t → done ≤ most → (quiet ≡ true → IsQuiet packets mid) → (quiet ≡ false → done ≡ most)
+    → progress ≡ record { steps = done; is_settled = bit quiet } → Settles packets most progress s t
+settled packets quiet most done s mid t progress before so_far within none whole progress_is =
+    let amount : progress.steps ≡ done = ap (λ (x : SettleProgress). x.steps) progress_is in
     record {
       quiet = quiet;
-      told_is = told_is ∙ ap (λ (n : ℕ). record (of_kind 255 0) { amount = n; status = bit quiet }) (sym amount);
+      is_settled = ap (λ (x : SettleProgress). x.is_settled) progress_is;
       within = omega (arith, within, amount);
       shows = λ setup w shows. subst (λ (n : ℕ). ShowsWorld setup t.core (worked setup packets w n)) (sym amount) (so_far.shows setup w shows);
       each = λ setup w k shows low. so_far.each setup w k shows (omega (arith, low, amount));

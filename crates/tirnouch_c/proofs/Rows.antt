@@ -14,7 +14,7 @@ use Rattle.usb_core.specs.StepBursts.{whole_entry}
 use Rattle.tirnouch_c.specs.declared.session.Session.{Session}
 use Rattle.tirnouch_c.specs.Calls.{SameBeside}
 use Rattle.tirnouch_c.specs.Packets.{ServesRow, ends_nothing, entry_behind, goes_on, served}
-use Rattle.tirnouch_c.specs.Told.{told_of}
+use Rattle.tirnouch_c.specs.Replies.{entry_numbers}
 use Rattle.tirnouch_c.proofs.Progress.{goes, stops}
 
 -- of lists that are the same the first are, and the others
@@ -73,9 +73,9 @@ module _ (setup : Setup) (dev ep : ℕ) where
           let row = rowed w (whole_entry x) b.last b.full same in
           (row.0, λ k low. subst (λ (e : Entry). ends_nothing e.reply ≡ true) (row.1 k low) refl)
 
--- packets in a row, and what is told of them
+-- packets in a row, and the reply of the last
 pub row_is : (dev ep most : ℕ) (b : Burst) (ready further : Bool) (s t : Session) → 0 < most → TurnsInRow s.core (replicate (b.full + 1) (Serve dev ep)) (burst_entries b) t.core → b.full + 1 ≤ max 1 most
-    → further ≡ goes_on ready b.last.reply → StillCarries s.core t.core → SameBeside s t → ServesRow dev ep most (record (told_of b.last) { amount = b.full + 1 }, further) s t
+    → further ≡ goes_on ready b.last.reply → StillCarries s.core t.core → SameBeside s t → ServesRow dev ep most (record (entry_numbers b.last) { packets = b.full + 1 }, further) s t
 row_is dev ep most b ready further s t some turned few is carries same = record {
   some = omega arith;
   within = omega (arith, some, few);
@@ -83,7 +83,7 @@ row_is dev ep most b ready further s t some turned few is carries same = record 
   last = λ setup w k shows at.
       let place : b.full ≡ k = omega (arith, at) in
       let amount : b.full + 1 ≡ suc k = at in
-      ap (λ (n : ℕ). record (told_of b.last) { amount = n }) amount ∙ ap (λ (e : Entry). record (told_of e) { amount = suc k })
+      ap (λ (n : ℕ). record (entry_numbers b.last) { packets = n }) amount ∙ ap (λ (e : Entry). record (entry_numbers e) { packets = suc k })
       ((row_behind setup dev ep w b (turned setup w shows).0).0 ∙ ap (λ (n : ℕ). entry_behind setup dev ep w n) place);
   before = λ setup w k shows low. (row_behind setup dev ep w b (turned setup w shows).0).1 k (omega (arith, low));
   further = λ setup w k shows on at.

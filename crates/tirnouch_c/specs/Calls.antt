@@ -5,9 +5,9 @@ use Rattle.usb_model.specs.declared.step.Step.TheVariants.{Cancel, Claim, ClearH
 use Rattle.usb_core.specs.Public.{ShowsWorld, StillCarries}
 use Rattle.usb_model.specs.Setup.{Setup}
 use Rattle.usb_model.specs.World.{World, turn}
+use Rattle.tirnouch_c.specs.declared.replies.StepReply.{StepReply}
 use Rattle.tirnouch_c.specs.declared.session.Session.{Session}
-use Rattle.tirnouch_c.specs.declared.told.Told.{Told}
-use Rattle.tirnouch_c.specs.Told.{code_of, told_of}
+use Rattle.tirnouch_c.specs.Replies.{code_of, entry_numbers}
 
 -- the answer of a slot that holds no session (libusb's LIBUSB_ERROR_OTHER), and of a call with a number that is out of range (LIBUSB_ERROR_INVALID_PARAM)
 abbrev pub no_session : ℤ
@@ -45,21 +45,21 @@ step_by verb h a n =
     else if verb == 11 then (if nat_lt a 4 then Some (Unplug a) else None)
     else None
 
--- a step was made: it is the world's turn, the answer is that of its reply, and what is told is its entry
-abbrev pub Makes : Step → ℤ → Told → Session → Session → Type 0
-Makes step answer told s t =
+-- a step was made: it is the world's turn, the answer is that of its reply, and the reply in numbers is that of its entry
+abbrev pub Makes : Step → ℤ → StepReply → Session → Session → Type 0
+Makes step answer reply s t =
     ((setup : Setup) (w : World) → ShowsWorld setup s.core w
-    → (answer ≡ code_of (turn setup w step).entry.reply) × (told ≡ told_of (turn setup w step).entry) × ShowsWorld setup t.core (turn setup w step).world)
+    → (answer ≡ code_of (turn setup w step).entry.reply) × (reply ≡ entry_numbers (turn setup w step).entry) × ShowsWorld setup t.core (turn setup w step).world)
     × StillCarries s.core t.core × SameBeside s t
 
 -- a step of a verb was made, where there is one
-abbrev pub MakesBy : Option Step → ℤ → Told → Session → Session → Type 0
-MakesBy None answer told s t = (answer ≡ out_of_range) × (t ≡ s)
-MakesBy (Some step) answer told s t = Makes step answer told s t
+abbrev pub MakesBy : Option Step → ℤ → StepReply → Session → Session → Type 0
+MakesBy None answer reply s t = (answer ≡ out_of_range) × (t ≡ s)
+MakesBy (Some step) answer reply s t = Makes step answer reply s t
 
 -- the same of a number that may be no handle's
 abbrev pub step_of : (verb h a n : ℕ) → Option Step
 step_of verb h a n = if nat_lt h 64 then step_by verb h a n else None
 
-abbrev pub Calls : (verb h a n : ℕ) → ℤ → Told → Session → Session → Type 0
-Calls verb h a n answer told s t = MakesBy (step_of verb h a n) answer told s t
+abbrev pub Calls : (verb h a n : ℕ) → ℤ → StepReply → Session → Session → Type 0
+Calls verb h a n answer reply s t = MakesBy (step_of verb h a n) answer reply s t

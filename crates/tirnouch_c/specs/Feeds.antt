@@ -5,12 +5,12 @@ use Rattle.usb_model.specs.declared.response.Response.{Response}
 use Rattle.usb_model.specs.declared.response.Response.TheVariants.{Ack, Broken, Data, Nak, Stall}
 use Rattle.usb_model.specs.Setup.{Setup}
 use Rattle.usb_model.specs.World.{World}
+use Rattle.tirnouch_c.specs.declared.feeds.PacketOffer.{PacketOffer}
 use Rattle.tirnouch_c.specs.declared.session.Session.{Session}
-use Rattle.tirnouch_c.specs.declared.told.Told.{Told}
 use Rattle.tirnouch_c.specs.Buffers.{filled}
 use Rattle.tirnouch_c.specs.Calls.{SameBeside, out_of_range}
 use Rattle.tirnouch_c.specs.Exports.{device_by}
-use Rattle.tirnouch_c.specs.Told.{bit, of_kind}
+use Rattle.tirnouch_c.specs.Replies.{bit, nobody}
 
 -- the answer of a number: a packet of these bytes, taken, not ready, a stall, a broken transaction
 unfoldable pub answer_by : ℕ → List ℕ → Option Response
@@ -65,9 +65,15 @@ pub record Next : Type 0 where
   pub wants : Bool
 
 -- in numbers
-abbrev pub next_told : ℕ → Option Next → Told
-next_told ep None = of_kind 255 3
-next_told ep (Some x) = record (of_kind x.owner (bit x.wants)) { ep = ep; amount = x.room; n = x.n }
+abbrev pub offer_numbers : (owner n room : ℕ) → (wants : Bool) → PacketOffer
+offer_numbers owner n room wants = record { has_packet = 1; is_asked = bit wants; handle = owner; length = room; number = n }
+
+abbrev pub no_packet : PacketOffer
+no_packet = record { has_packet = 0; is_asked = 0; handle = nobody; length = 0; number = 0 }
+
+abbrev pub packet_numbers : Option Next → PacketOffer
+packet_numbers None = no_packet
+packet_numbers (Some x) = offer_numbers x.owner x.n x.room x.wants
 
 abbrev pub next_filled : Option Next → List ℕ → List ℕ
 next_filled None old = old
@@ -78,16 +84,8 @@ abbrev pub IsNextOf : Setup → World → (dev ep : ℕ) → Option Next → Typ
 IsNextOf setup w dev ep None = HasNone setup w dev ep
 IsNextOf setup w dev ep (Some x) = IsNext setup w dev ep x.owner x.n x.out x.room x.wants
 
-pub record TellsNext (dev ep : ℕ) (told : Told) (old new : List ℕ) (s : Session) : Type 0 where
+pub record TellsNext (dev ep : ℕ) (packet : PacketOffer) (old new : List ℕ) (s : Session) : Type 0 where
   pub next : Option Next
-  pub told_is : told ≡ next_told ep next
+  pub packet_is : packet ≡ packet_numbers next
   pub buffer : new ≡ next_filled next old
   pub is : (setup : Setup) (w : World) → ShowsWorld setup s.core w → IsNextOf setup w dev ep next
-
--- of a number that may be no device's
-abbrev pub OffersIf : Option ℕ → (ep : ℕ) → ℤ → (was told : Told) → (old new : List ℕ) → Session → Type 0
-OffersIf None ep answer was told old new s = (answer ≡ out_of_range) × (told ≡ was) × (new ≡ old)
-OffersIf (Some dev) ep answer was told old new s = (answer ≡ pos 0) × TellsNext dev ep told old new s
-
-abbrev pub OffersBy : (dev ep : ℕ) → ℤ → (was told : Told) → (old new : List ℕ) → Session → Type 0
-OffersBy dev ep answer was told old new s = OffersIf (device_by dev) ep answer was told old new s

@@ -1,5 +1,5 @@
 pub mod Slots
-pub mod Told
+pub mod Replies
 pub mod Complaints
 pub mod Sessions
 pub mod Calls
@@ -11,8 +11,11 @@ pub mod Lent
 pub mod Results
 pub mod Reads
 pub mod Requests
+pub mod Facts
 pub mod Descriptions
+pub mod Endpoints
 pub mod Turn
 pub mod Exports
 pub mod Feeds
+pub mod Questions
 pub mod Living

@@ -13,8 +13,9 @@ use Rattle.usb_model.specs.declared.verdict.Verdict.TheVariants.{Stop}
 use Rattle.usb_model.specs.Setup.{Setup}
 use Rattle.usb_model.specs.World.{World, new_world}
 use Rattle.usb_living.specs.Rows.{Deed, Fed, HasAnswers, IsAsIfKnown, Made}
+use Rattle.tirnouch_c.specs.declared.replies.StepReply.{StepReply}
 use Rattle.tirnouch_c.specs.declared.session.Session.{Session}
-use Rattle.tirnouch_c.specs.declared.told.Told.{Told}
+use Rattle.tirnouch_c.specs.declared.settling.SettleProgress.{SettleProgress}
 use Rattle.tirnouch_c.specs.Calls.{Makes}
 use Rattle.tirnouch_c.specs.Feeds.{Behind, FeedsAs}
 use Rattle.tirnouch_c.specs.Packets.{Serves}
@@ -33,12 +34,12 @@ abbrev pub submitted : ℕ → Request → Reply → List Step
 submitted h request (reply.Refused NoMem) = []
 submitted h request reply = Submit h request ∷ []
 
--- what a call does to a session, by the contract of its export: a step; packets, as many as are told; steps that are to be made, as many as are told; a
+-- what a call does to a session, by the contract of its export: a step; packets, as many as its reply says; steps that are to be made, as many as it says; a
 -- submission; a result that goes out, whose callback ends; an answer that is fed; or nothing
 pub data Does : Deed → (s t : Session) → Type 0 where
-  steps : (step : Step) (answer : ℤ) (told : Told) (s t : Session) → Makes step answer told s t → Does (Made (λ setup w. step ∷ [])) s t
-  serves : (dev ep most : ℕ) (told : Told) (s t : Session) → Serves dev ep most told s t → Does (Made (λ setup w. replicate told.amount (Serve dev ep))) s t
-  settles : (packets : Bool) (most : ℕ) (told : Told) (s t : Session) → Settles packets most told s t → Does (Made (next_steps packets told.amount)) s t
+  steps : (step : Step) (answer : ℤ) (reply : StepReply) (s t : Session) → Makes step answer reply s t → Does (Made (λ setup w. step ∷ [])) s t
+  serves : (dev ep most : ℕ) (reply : StepReply) (s t : Session) → Serves dev ep most reply s t → Does (Made (λ setup w. replicate reply.packets (Serve dev ep))) s t
+  settles : (packets : Bool) (most : ℕ) (progress : SettleProgress) (s t : Session) → Settles packets most progress s t → Does (Made (next_steps packets progress.steps)) s t
   submits : (h payload : ℕ) (request : Request) (reply : Reply) (s t : Session) → SubmitsAs h request payload reply s.core t.core → Does (Made (λ setup w. submitted h request reply)) s t
   takes : (x : Taken ℕ) (s t : Session) → GoesOut x s.core t.core → Does (Made (λ setup w. Take ∷ Answer x.returned.h x.returned.n Stop ∷ [])) s t
   feeds : (dev ep : ℕ) (a : Response) (s t : Session) → FeedsAs Behind (Some dev) ep (Some a) s t → Does (Fed dev ep a) s t

@@ -6,11 +6,11 @@ use Rattle.usb_model.specs.declared.step.Step.TheVariants.{Answer, Take}
 use Rattle.usb_model.specs.declared.verdict.Verdict.TheVariants.{Stop}
 use Rattle.usb_model.specs.Setup.{Setup}
 use Rattle.usb_model.specs.World.{World, turn}
+use Rattle.tirnouch_c.specs.declared.results.TakenResult.{TakenResult}
 use Rattle.tirnouch_c.specs.declared.session.Session.{Session}
-use Rattle.tirnouch_c.specs.declared.told.Told.{Told}
 use Rattle.tirnouch_c.specs.Buffers.{answer_of, filled, taken_count}
 use Rattle.tirnouch_c.specs.Lent.{BytesGo}
-use Rattle.tirnouch_c.specs.Told.{of_kind, told_of}
+use Rattle.tirnouch_c.specs.Replies.{nobody, status_number}
 use Rattle.tirnouch_c.specs.declared.lent_memory.LentMemory.{LentMemory}
 
 -- what is answered where a result is asked for: 0 where none waits, 1 where one goes out
@@ -18,13 +18,24 @@ abbrev pub went_number : Option (Taken ℕ) → ℤ
 went_number None = pos 0
 went_number (Some taken) = pos 1
 
--- what is told: of a result that went out what it is, and what was kept with it
-abbrev pub told_taken : Taken ℕ → Told
-told_taken x = record (told_of (called_entry (Some x.returned))) { payload = x.payload }
+-- a result in numbers, with what was kept with it
+abbrev pub result_numbers : Taken ℕ → TakenResult
+result_numbers x = record {
+  handle = x.returned.h;
+  endpoint = x.returned.ep;
+  status = status_number x.returned.status;
+  actual_length = x.returned.actual;
+  number = x.returned.n;
+  payload = x.payload;
+}
 
-abbrev pub went_told : Option (Taken ℕ) → Told
-went_told None = of_kind 255 3
-went_told (Some taken) = told_taken taken
+abbrev pub no_result : TakenResult
+no_result = record { handle = nobody; endpoint = 0; status = 0; actual_length = 0; number = 0; payload = 0 }
+
+-- what it was that went out
+abbrev pub went_numbers : Option (Taken ℕ) → TakenResult
+went_numbers None = no_result
+went_numbers (Some taken) = result_numbers taken
 
 -- the world behind a result that goes out, and whose callback ends at once
 abbrev pub out_and_ended : Setup → World → (h n : ℕ) → World
@@ -42,10 +53,10 @@ abbrev pub TakesAs : Option (Taken ℕ) → (old new : LentMemory) → (s t : Se
 TakesAs None old new s t = TurnsWorld s.core Take (called_entry None) t.core × (new ≡ old) × (t ≡ s)
 TakesAs (Some x) old new s t = GoesOut x s.core t.core × BytesGo x t.out old new × (t.devices ≡ s.devices)
 
-pub record Takes (answer : ℤ) (told : Told) (old new : LentMemory) (s t : Session) : Type 0 where
+pub record Takes (answer : ℤ) (out : TakenResult) (old new : LentMemory) (s t : Session) : Type 0 where
   pub went : Option (Taken ℕ)
   pub answered : answer ≡ went_number went
-  pub told_is : told ≡ went_told went
+  pub out_is : out ≡ went_numbers went
   pub made : TakesAs went old new s t
 
 -- the bytes that are to be fetched

@@ -11,9 +11,9 @@ use Rattle.usb_model.specs.Machine.{endpoint_at}
 use Rattle.usb_model.specs.Setup.{Setup}
 use Rattle.usb_model.specs.World.{World, machine_of, turn}
 use Rattle.tirnouch_c.specs.declared.session.Session.{Session}
-use Rattle.tirnouch_c.specs.declared.told.Told.{Told}
+use Rattle.tirnouch_c.specs.declared.settling.SettleProgress.{SettleProgress}
 use Rattle.tirnouch_c.specs.Calls.{SameBeside}
-use Rattle.tirnouch_c.specs.Told.{bit, of_kind}
+use Rattle.tirnouch_c.specs.Replies.{bit}
 
 -- the packet that is to be served next: the first that does something, by device and address
 abbrev pub next_packet : Setup → World → Option Step
@@ -58,15 +58,15 @@ worked setup packets w (suc k) = behind_step setup (worked setup packets w k) (n
 abbrev pub NoneAsked : Setup → World → Type 0
 NoneAsked setup w = (h ep : ℕ) → has_asked (line_at (endpoint_at (machine_of setup h w) ep)) ≡ false
 
--- as many steps as are told, each of which was to be made; fewer than wanted only where nothing is left. Then each transfer that was asked to end has ended
-pub record Settles (packets : Bool) (most : ℕ) (told : Told) (s t : Session) : Type 0 where
+-- as many steps as it says, each of which was to be made; fewer than wanted only where nothing is left. Then each transfer that was asked to end has ended
+pub record Settles (packets : Bool) (most : ℕ) (progress : SettleProgress) (s t : Session) : Type 0 where
   pub quiet : Bool
-  pub told_is : told ≡ record (of_kind 255 0) { amount = told.amount; status = bit quiet }
-  pub within : told.amount ≤ most
-  pub shows : (setup : Setup) (w : World) → ShowsWorld setup s.core w → ShowsWorld setup t.core (worked setup packets w told.amount)
-  pub each : (setup : Setup) (w : World) (k : ℕ) → ShowsWorld setup s.core w → k < told.amount → next_step setup packets (worked setup packets w k) ≡ None → ⊥
-  pub nothing_left : (setup : Setup) (w : World) → ShowsWorld setup s.core w → quiet ≡ true → next_step setup packets (worked setup packets w told.amount) ≡ None
-  pub ended : (setup : Setup) (w : World) → ShowsWorld setup s.core w → quiet ≡ true → NoneAsked setup (worked setup packets w told.amount)
-  pub whole : quiet ≡ false → told.amount ≡ most
+  pub is_settled : progress.is_settled ≡ bit quiet
+  pub within : progress.steps ≤ most
+  pub shows : (setup : Setup) (w : World) → ShowsWorld setup s.core w → ShowsWorld setup t.core (worked setup packets w progress.steps)
+  pub each : (setup : Setup) (w : World) (k : ℕ) → ShowsWorld setup s.core w → k < progress.steps → next_step setup packets (worked setup packets w k) ≡ None → ⊥
+  pub nothing_left : (setup : Setup) (w : World) → ShowsWorld setup s.core w → quiet ≡ true → next_step setup packets (worked setup packets w progress.steps) ≡ None
+  pub ended : (setup : Setup) (w : World) → ShowsWorld setup s.core w → quiet ≡ true → NoneAsked setup (worked setup packets w progress.steps)
+  pub whole : quiet ≡ false → progress.steps ≡ most
   pub carries : StillCarries s.core t.core
   pub same : SameBeside s t

@@ -12,10 +12,10 @@ use Rattle.usb_model.specs.declared.request.Kind.TheVariants.{Bulk, Control, Int
 use Rattle.usb_model.specs.declared.request.Request.{Request}
 use Rattle.usb_model.specs.declared.step.Step.TheVariants.{Submit}
 use Rattle.usb_model.specs.Setup.{is_in}
+use Rattle.tirnouch_c.specs.declared.replies.StepReply.{StepReply}
 use Rattle.tirnouch_c.specs.declared.session.Session.{Session}
-use Rattle.tirnouch_c.specs.declared.told.Told.{Told}
 use Rattle.tirnouch_c.specs.Calls.{SameBeside, out_of_range}
-use Rattle.tirnouch_c.specs.Told.{code_of, told_of}
+use Rattle.tirnouch_c.specs.Replies.{code_of, entry_numbers}
 
 -- the kind of libusb's number (libusb_transfer_type)
 unfoldable pub kind_by : ℕ → Option Kind
@@ -45,25 +45,25 @@ SubmitsAs h request payload (IsRefused NoMem) s t = Stays s t × StillCarries s 
 SubmitsAs h request payload (IsRefused why) s t = TurnsWorld s (Submit h request) (record { owner = Some h; reply = IsRefused why }) t × StillCarries s t
 SubmitsAs h request payload reply s t = ⊥
 
--- and what is answered and told of it
-pub record Submits (h : ℕ) (request : Request) (payload : ℕ) (answer : ℤ) (told : Told) (s t : Session) : Type 0 where
+-- and what is answered of it, and replied in numbers
+pub record Submits (h : ℕ) (request : Request) (payload : ℕ) (answer : ℤ) (numbers : StepReply) (s t : Session) : Type 0 where
   pub reply : Reply
   pub answered : answer ≡ code_of reply
-  pub told_is : told ≡ told_of (record { owner = Some h; reply = reply })
+  pub numbers_is : numbers ≡ entry_numbers (record { owner = Some h; reply = reply })
   pub made : SubmitsAs h request payload reply s.core t.core
   pub same : SameBeside s t
 
 -- the same of a request that may be none
-abbrev pub SubmitsIf : ℕ → Option Request → ℕ → ℤ → Told → (s t : Session) → Type 0
-SubmitsIf h None payload answer told s t = (answer ≡ out_of_range) × (t ≡ s)
-SubmitsIf h (Some request) payload answer told s t = Submits h request payload answer told s t
+abbrev pub SubmitsIf : ℕ → Option Request → ℕ → ℤ → StepReply → (s t : Session) → Type 0
+SubmitsIf h None payload answer numbers s t = (answer ≡ out_of_range) × (t ≡ s)
+SubmitsIf h (Some request) payload answer numbers s t = Submits h request payload answer numbers s t
 
 -- and of a number that may be no handle's
-abbrev pub SubmitsBy : (h ep kind flags timeout room : ℕ) → List ℕ → ℕ → ℤ → Told → (s t : Session) → Type 0
-SubmitsBy h ep kind flags timeout room bytes payload answer told s t =
-    SubmitsIf h (if nat_lt h 64 then request_by ep kind flags timeout room bytes else None) payload answer told s t
+abbrev pub SubmitsBy : (h ep kind flags timeout room : ℕ) → List ℕ → ℕ → ℤ → StepReply → (s t : Session) → Type 0
+SubmitsBy h ep kind flags timeout room bytes payload answer numbers s t =
+    SubmitsIf h (if nat_lt h 64 then request_by ep kind flags timeout room bytes else None) payload answer numbers s t
 
 -- the same over memory with this room
-abbrev pub SubmitsOver : (h ep kind flags timeout room payload : ℕ) → ℤ → Told → (s t : Session) → Type 0
-SubmitsOver h ep kind flags timeout room payload answer told s t =
-    SubmitsIf h (if nat_lt h 64 then request_over ep kind flags timeout room else None) payload answer told s t
+abbrev pub SubmitsOver : (h ep kind flags timeout room payload : ℕ) → ℤ → StepReply → (s t : Session) → Type 0
+SubmitsOver h ep kind flags timeout room payload answer numbers s t =
+    SubmitsIf h (if nat_lt h 64 then request_over ep kind flags timeout room else None) payload answer numbers s t

@@ -4,8 +4,8 @@ ghost use Rattle.std.specs.Prelude.{◌≡◌, false, IfSome};
 ghost use Rattle.usb_core.specs.Public.{takes_memory};
 ghost use Rattle.tirnouch_c.specs.Calls.{Makes, step_by};
 
+use crate::replies::{StepReply, code_of};
 use crate::session::Session;
-use crate::told::{Told, code_of};
 use usb_model::{DeviceNo, EpAddr, Name, Step};
 
 /// The step of a verb: 0 open (a: device), 1 close, 2 claim (a: interface), 3 release, 4 reset, 5 clear halt (a: endpoint),
@@ -38,11 +38,11 @@ pub fn step_by(verb: u8, h: Name, a: u8, n: u64) -> Option<Step>
 }
 
 /// Makes a step that takes no memory; its answer is libusb's number of a refusal, else 0.
-pub fn make(session: &mut Session, step: Step, told: &mut Told) -> i32
+pub fn make(session: &mut Session, step: Step, reply: &mut StepReply) -> i32
     requires { takes_memory step ≡ false }
-    ensures { Makes step result told.new session.old session.new }
+    ensures { Makes step result reply.new session.old session.new }
 {
     let entry = session.core.call(step);
-    *told = Told::of(&entry);
+    *reply = StepReply::of(&entry);
     code_of(&entry.reply)
 }

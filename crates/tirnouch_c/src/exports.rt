@@ -1,28 +1,30 @@
-//! What C calls: numbers and buffers, over a slot that holds a session.
+//! What C calls: numbers and buffers, over a slot that holds a session. What only asks is in questions.rt.
 
 ghost use Rattle.std.specs.Prelude.{◌≡◌, IfErr, IfOk, IfSome, false, pos};
 ghost use Rattle.usb_model.specs.Buffer.{no_memory};
 ghost use Rattle.usb_core.specs.Public.{takes_memory};
 ghost use Rattle.tirnouch_c.specs.Lent.{Lends};
-ghost use Rattle.usb_devicetext.specs.Packet.{needs_of, packet_of};
+ghost use Rattle.usb_devicetext.specs.Packet.{packet_of};
 ghost use Rattle.tirnouch_c.specs.Complaints.{TellsWrong};
-ghost use Rattle.tirnouch_c.specs.Calls.{Calls, InSlot, ReadsSlot, step_of};
-ghost use Rattle.tirnouch_c.specs.Exports.{Creates, Destroys, LooksBy, PendsBy, ServesBy, SettlesBy, TakenBy, WorksBy, after, device_by};
-ghost use Rattle.tirnouch_c.specs.Feeds.{FeedsBy, OffersBy};
+ghost use Rattle.tirnouch_c.specs.Calls.{Calls, InSlot, step_of};
+ghost use Rattle.tirnouch_c.specs.Exports.{Creates, Destroys, ServesBy, SettlesBy, WorksBy, device_by};
+ghost use Rattle.tirnouch_c.specs.Feeds.{FeedsBy};
 ghost use Rattle.tirnouch_c.specs.Sessions.{IsMade, IsUnmade};
-ghost use Rattle.tirnouch_c.specs.Descriptions.{Describes, Tells};
 ghost use Rattle.tirnouch_c.specs.Results.{Fetches, Takes};
-ghost use Rattle.tirnouch_c.specs.Requests.{Asks, needs_told};
+ghost use Rattle.tirnouch_c.specs.Requests.{Asks};
 ghost use Rattle.tirnouch_c.specs.Submission.{SubmitsBy, SubmitsIf, SubmitsOver, request_over};
 
 use crate::calls::{make, step_by};
+use crate::complaints::TextComplaint;
 use crate::held::Slot;
 use crate::lent::{lend, put_back};
+use crate::replies::StepReply;
+use crate::requests::ControlResponse;
+use crate::results::TakenResult;
 use crate::session::Session;
-use crate::told::Told;
+use crate::settling::SettleProgress;
 use crate::{
-    LentMemory, complaints, descriptions, feeds, packets, reads, requests, results, settling,
-    submission, turn,
+    LentMemory, complaints, feeds, packets, requests, results, settling, submission, turn,
 };
 use std::alloc::Global;
 use trace_scenario::TextFault;
@@ -30,10 +32,10 @@ use usb_devicetext::SetupPacket;
 use usb_model::{Buffer, DeviceNo, EpAddr, Name, Step};
 
 /// The answer of a slot that holds no session (libusb 1.0, `LIBUSB_ERROR_OTHER`).
-const NO_SESSION: i32 = -99;
+pub const NO_SESSION: i32 = -99;
 
 /// The answer of a call with a number that is out of range (libusb 1.0, `LIBUSB_ERROR_INVALID_PARAM`).
-const INVALID: i32 = -2;
+pub const INVALID: i32 = -2;
 
 /// The answer of a slot that holds a session already (libusb 1.0, `LIBUSB_ERROR_BUSY`).
 const BUSY: i32 = -6;
@@ -53,16 +55,16 @@ fn boxed(alloc: Global, text: &[u8]) -> Result<Box<Session>, TextFault>
     }
 }
 
-/// Makes a session with the devices of a text: 0. InvalidParam where a line of the text isn't taken, whose number is told; NoMem
-/// where memory is refused; Busy where the slot holds a session already. Then nothing changed.
+/// Makes a session with the devices of a text: 0. InvalidParam where a line of the text isn't taken, and `complaint` has its number;
+/// NoMem where memory is refused; Busy where the slot holds a session already. Then nothing changed.
 #[unsafe(no_mangle)]
 pub extern "C" fn tirnouch_create(
     alloc: Global,
     slot: &mut Slot,
     text: &[u8],
-    told: &mut Told,
+    complaint: &mut TextComplaint,
 ) -> i32
-    ensures { Creates text.now result told.new slot.old.held.value slot.new.held.value }
+    ensures { Creates text.now result complaint.new slot.old.held.value slot.new.held.value }
 {
     if slot.is_full() {
         return BUSY;
@@ -73,7 +75,7 @@ pub extern "C" fn tirnouch_create(
             0
         }
         Err(TextFault::Line(line)) => {
-            *told = Told::line(line);
+            *complaint = TextComplaint::at_line(line);
             INVALID
         }
         Err(TextFault::Memory) => NO_MEM,
@@ -81,18 +83,18 @@ pub extern "C" fn tirnouch_create(
 }
 
 /// What is wrong with a text of devices: 0 where nothing is. Else how long the sentence is that says it to a person, in ASCII, and its
-/// bytes, as far as there is room. The number of the first line that isn't taken is told in `n`; in `amount` the word of it that is
-/// meant, from 0 on, with `status` 1; 255 where the whole line is, with `status` 0. NoMem where memory is refused.
+/// bytes, as far as there is room; and `complaint` has the first line that isn't taken, and the word of it that is meant. NoMem where
+/// memory is refused.
 #[unsafe(no_mangle)]
 pub extern "C" fn tirnouch_complain(
     alloc: Global,
     text: &[u8],
     buffer: &mut [u8],
-    told: &mut Told,
+    complaint: &mut TextComplaint,
 ) -> i32
-    ensures { TellsWrong text.now result told.old told.new buffer.old buffer.new }
+    ensures { TellsWrong text.now result complaint.old complaint.new buffer.old buffer.new }
 {
-    complaints::complain(alloc, text, buffer, told)
+    complaints::complain(alloc, text, buffer, complaint)
 }
 
 /// Frees the session of a slot.
@@ -107,12 +109,12 @@ pub extern "C" fn tirnouch_destroy(alloc: Global, slot: &mut Slot) -> i32
 }
 
 /// A step of a verb and a number that may be no handle's.
-fn call_in(session: &mut Session, verb: u8, h: u8, a: u8, n: u64, told: &mut Told) -> i32
-    ensures { Calls verb h a n result told.new session.old session.new }
+fn call_in(session: &mut Session, verb: u8, h: u8, a: u8, n: u64, reply: &mut StepReply) -> i32
+    ensures { Calls verb h a n result reply.new session.old session.new }
 {
     match step_of(verb, h, a, n) {
         None => INVALID,
-        Some(step) => make(session, step, told),
+        Some(step) => make(session, step, reply),
     }
 }
 
@@ -124,8 +126,8 @@ fn step_of(verb: u8, h: u8, a: u8, n: u64) -> Option<Step>
     step_by(verb, Name::new(h)?, a, n)
 }
 
-/// A step of a handle, or that a device is unplugged. `verb`: 0 open (a: device), 1 close, 2 claim (a: interface), 3 release, 4
-/// reset, 5 clear halt (a: endpoint), 6 cancel (n: transfer), 7 expire, 11 unplug (a: device).
+/// A step of a handle, or that a device is unplugged. `verb` is of `enum tirnouch_verb`. `a`: the device of an open and an unplug, the
+/// interface of a claim and a release, the endpoint of a clear halt. `n`: the transfer of a cancel and an expire.
 #[unsafe(no_mangle)]
 pub extern "C" fn tirnouch_call(
     alloc: Global,
@@ -134,14 +136,14 @@ pub extern "C" fn tirnouch_call(
     h: u8,
     a: u8,
     n: u64,
-    told: &mut Told,
+    reply: &mut StepReply,
 ) -> i32
-    ensures { InSlot slot.old.held.value slot.new.held.value result (Calls verb h a n result told.new) }
+    ensures { InSlot slot.old.held.value slot.new.held.value result (Calls verb h a n result reply.new) }
 {
     let Some(mut session) = slot.take(alloc) else {
         return NO_SESSION;
     };
-    let answer = call_in(&mut session, verb, h, a, n, told);
+    let answer = call_in(&mut session, verb, h, a, n, reply);
     slot.put(alloc, session);
     answer
 }
@@ -158,9 +160,9 @@ fn submit_in(
     room: u32,
     buffer: &[u8],
     payload: u64,
-    told: &mut Told,
+    reply: &mut StepReply,
 ) -> i32
-    ensures { SubmitsBy h ep kind flags timeout room buffer.now payload result told.new session.old session.new }
+    ensures { SubmitsBy h ep kind flags timeout room buffer.now payload result reply.new session.old session.new }
 {
     let Some(name) = Name::new(h) else {
         return INVALID;
@@ -175,14 +177,14 @@ fn submit_in(
         buffer,
     );
     match request {
-        Ok(Some(request)) => submission::submit(alloc, session, name, request, payload, told),
+        Ok(Some(request)) => submission::submit(alloc, session, name, request, payload, reply),
         Ok(None) => INVALID,
-        Err(_) => submission::refuse(name, told),
+        Err(_) => submission::refuse(name, reply),
     }
 }
 
-/// Submits a transfer (libusb 1.0, `libusb_submit_transfer`); its number is told. It reads at most `room` bytes, where the endpoint
-/// is for IN, and else writes these. With it `payload` is kept, which is told when it goes out.
+/// Submits a transfer (libusb 1.0, `libusb_submit_transfer`); `reply` has its number. It reads at most `room` bytes, where the endpoint
+/// is for IN, and else writes these. With it `payload` is kept, which the result has when it goes out.
 #[unsafe(no_mangle)]
 pub extern "C" fn tirnouch_submit(
     alloc: Global,
@@ -195,9 +197,9 @@ pub extern "C" fn tirnouch_submit(
     room: u32,
     buffer: &[u8],
     payload: u64,
-    told: &mut Told,
+    reply: &mut StepReply,
 ) -> i32
-    ensures { InSlot slot.old.held.value slot.new.held.value result (SubmitsBy h ep kind flags timeout room buffer.now payload result told.new) }
+    ensures { InSlot slot.old.held.value slot.new.held.value result (SubmitsBy h ep kind flags timeout room buffer.now payload result reply.new) }
 {
     let Some(mut session) = slot.take(alloc) else {
         return NO_SESSION;
@@ -213,7 +215,7 @@ pub extern "C" fn tirnouch_submit(
         room,
         buffer,
         payload,
-        told,
+        reply,
     );
     slot.put(alloc, session);
     answer
@@ -230,16 +232,16 @@ fn submit_over(
     timeout: u32,
     memory: &mut Buffer,
     payload: u64,
-    told: &mut Told,
+    reply: &mut StepReply,
 ) -> i32
-    ensures submitted { SubmitsIf h (request_over ep kind flags timeout memory.old.capacity) payload result told.new session.old session.new }
+    ensures submitted { SubmitsIf h (request_over ep kind flags timeout memory.old.capacity) payload result reply.new session.old session.new }
     ensures accepted { result ≡ pos 0 → memory.new ≡ no_memory }
     ensures refused { (result ≡ pos 0 → ⊥) → memory.new ≡ record memory.old { items = memory.new.items } }
 {
     match submission::request_over(alloc, ep, kind, flags, timeout, memory.capacity()) {
-        Ok(Some(request)) => submission::submit_into(session, h, request, memory, payload, told),
+        Ok(Some(request)) => submission::submit_into(session, h, request, memory, payload, reply),
         Ok(None) => INVALID,
-        Err(_) => submission::refuse(h, told),
+        Err(_) => submission::refuse(h, reply),
     }
 }
 
@@ -254,9 +256,9 @@ fn submit_lent(
     timeout: u32,
     memory: &mut LentMemory,
     payload: u64,
-    told: &mut Told,
+    reply: &mut StepReply,
 ) -> i32
-    ensures submitted { SubmitsOver h ep kind flags timeout memory.old.len payload result told.new session.old session.new }
+    ensures submitted { SubmitsOver h ep kind flags timeout memory.old.len payload result reply.new session.old session.new }
     ensures memory { Lends result memory.old memory.new }
 {
     let Some(name) = Name::new(h) else {
@@ -273,7 +275,7 @@ fn submit_lent(
         timeout,
         &mut buffer,
         payload,
-        told,
+        reply,
     );
     put_back(buffer, memory);
     answer
@@ -293,9 +295,9 @@ pub extern "C" fn tirnouch_submit_in(
     timeout: u32,
     memory: &mut LentMemory,
     payload: u64,
-    told: &mut Told,
+    reply: &mut StepReply,
 ) -> i32
-    ensures submitted { InSlot slot.old.held.value slot.new.held.value result (SubmitsOver h ep kind flags timeout memory.old.len payload result told.new) }
+    ensures submitted { InSlot slot.old.held.value slot.new.held.value result (SubmitsOver h ep kind flags timeout memory.old.len payload result reply.new) }
     ensures memory { Lends result memory.old memory.new }
 {
     let Some(mut session) = slot.take(alloc) else {
@@ -311,34 +313,34 @@ pub extern "C" fn tirnouch_submit_in(
         timeout,
         memory,
         payload,
-        told,
+        reply,
     );
     slot.put(alloc, session);
     answer
 }
 
 /// Packets at an endpoint of a number that may be no device's.
-fn serve_in(session: &mut Session, dev: u8, ep: u8, most: u32, told: &mut Told) -> i32
-    ensures { ServesBy dev ep most result told.new session.old session.new }
+fn serve_in(session: &mut Session, dev: u8, ep: u8, most: u32, reply: &mut StepReply) -> i32
+    ensures { ServesBy dev ep most result reply.new session.old session.new }
 {
     match device(dev) {
         None => INVALID,
         Some(dev) => {
-            packets::serve(session, dev, EpAddr::new(ep), most, told);
+            packets::serve(session, dev, EpAddr::new(ep), most, reply);
             0
         }
     }
 }
 
 /// The device of a number, if there may be one.
-fn device(dev: u8) -> Option<DeviceNo>
+pub fn device(dev: u8) -> Option<DeviceNo>
     ensures { result ≡ device_by dev }
 {
     DeviceNo::new(dev)
 }
 
-/// A device answers at most so many packets at an endpoint: until one ends a transfer, or it has no answer. The last one is told,
-/// and in `amount` how many they were.
+/// A device answers at most so many packets at an endpoint: until one ends a transfer, or it has no answer. `reply` is that of the
+/// last one, with how many they were.
 #[unsafe(no_mangle)]
 pub extern "C" fn tirnouch_serve(
     alloc: Global,
@@ -346,83 +348,53 @@ pub extern "C" fn tirnouch_serve(
     dev: u8,
     ep: u8,
     most: u32,
-    told: &mut Told,
+    reply: &mut StepReply,
 ) -> i32
-    ensures { InSlot slot.old.held.value slot.new.held.value result (ServesBy dev ep most result told.new) }
+    ensures { InSlot slot.old.held.value slot.new.held.value result (ServesBy dev ep most result reply.new) }
 {
     let Some(mut session) = slot.take(alloc) else {
         return NO_SESSION;
     };
-    let answer = serve_in(&mut session, dev, ep, most, told);
+    let answer = serve_in(&mut session, dev, ep, most, reply);
     slot.put(alloc, session);
     answer
 }
 
 /// Makes what is to be done, at most so many steps: events are handled and orders run, and packets are served where `packets`
-/// isn't 0. How many they were is told in `amount`, and in `status` 1 where nothing is left.
+/// isn't 0. `progress` has how many they were, and whether nothing is left.
 #[unsafe(no_mangle)]
 pub extern "C" fn tirnouch_settle(
     alloc: Global,
     slot: &mut Slot,
     packets: u8,
     most: u32,
-    told: &mut Told,
+    progress: &mut SettleProgress,
 ) -> i32
-    ensures { InSlot slot.old.held.value slot.new.held.value result (SettlesBy packets most result told.new) }
+    ensures { InSlot slot.old.held.value slot.new.held.value result (SettlesBy packets most result progress.new) }
 {
     let Some(mut session) = slot.take(alloc) else {
         return NO_SESSION;
     };
-    settling::settle(&mut session, packets != 0, most, told);
+    settling::settle(&mut session, packets != 0, most, progress);
     slot.put(alloc, session);
     0
 }
 
-/// What is to be done next: `kind` is 1 where a packet does something, and `h` and `ep` are the device and the endpoint, looked for
-/// from behind this one on; `status` has 1 for an order, 2 for an event, 4 for a result.
-#[unsafe(no_mangle)]
-pub extern "C" fn tirnouch_pending(
-    alloc: Global,
-    slot: &mut Slot,
-    dev: u8,
-    ep: u8,
-    told: &mut Told,
-) -> i32
-    ensures { ReadsSlot slot.old.held.value slot.new.held.value result (PendsBy dev ep result told.new) }
-{
-    let Some(session) = slot.take(alloc) else {
-        return NO_SESSION;
-    };
-    reads::pending(&session, after(dev, ep), told);
-    slot.put(alloc, session);
-    0
-}
-
-/// The endpoint behind which is looked; none where there is no such device.
-fn after(dev: u8, ep: u8) -> Option<(DeviceNo, EpAddr)>
-    ensures { result ≡ after dev ep }
-{
-    match device(dev) {
-        Some(dev) => Some((dev, EpAddr::new(ep))),
-        None => None,
-    }
-}
-
-/// The oldest result goes out, and its callback ends: 1, and it is told; 0 where none waits. Memory that was lent for it is C's again,
+/// The oldest result goes out, and its callback ends: 1; 0 where none waits. `out` is that result. Memory that was lent for it is C's again,
 /// and stands in `back`: its first `filled` bytes were read. Else its bytes are still to be fetched. It takes no memory.
 #[unsafe(no_mangle)]
 pub extern "C" fn tirnouch_take(
     alloc: Global,
     slot: &mut Slot,
     back: &mut LentMemory,
-    told: &mut Told,
+    out: &mut TakenResult,
 ) -> i32
-    ensures { InSlot slot.old.held.value slot.new.held.value result (Takes result told.new back.old back.new) }
+    ensures { InSlot slot.old.held.value slot.new.held.value result (Takes result out.new back.old back.new) }
 {
     let Some(mut session) = slot.take(alloc) else {
         return NO_SESSION;
     };
-    let answer = results::take(alloc, &mut session, back, told);
+    let answer = results::take(alloc, &mut session, back, out);
     slot.put(alloc, session);
     answer
 }
@@ -436,9 +408,9 @@ fn turn_in(
     packets: u32,
     steps: u32,
     back: &mut LentMemory,
-    told: &mut Told,
+    out: &mut TakenResult,
 ) -> i32
-    ensures { WorksBy dev ep packets steps result told.new back.old back.new session.old session.new }
+    ensures { WorksBy dev ep packets steps result out.new back.old back.new session.old session.new }
 {
     match device(dev) {
         None => INVALID,
@@ -450,13 +422,13 @@ fn turn_in(
             packets,
             steps,
             back,
-            told,
+            out,
         ),
     }
 }
 
 /// `tirnouch_serve`, `tirnouch_settle` without packets, and `tirnouch_take`, in one call: at most so many packets, and so many steps.
-/// What is told is the last of them, and the answer is that of `tirnouch_take`.
+/// Answer, `out` and `back` are those of `tirnouch_take`.
 #[unsafe(no_mangle)]
 pub extern "C" fn tirnouch_turn(
     alloc: Global,
@@ -466,14 +438,14 @@ pub extern "C" fn tirnouch_turn(
     packets: u32,
     steps: u32,
     back: &mut LentMemory,
-    told: &mut Told,
+    out: &mut TakenResult,
 ) -> i32
-    ensures { InSlot slot.old.held.value slot.new.held.value result (WorksBy dev ep packets steps result told.new back.old back.new) }
+    ensures { InSlot slot.old.held.value slot.new.held.value result (WorksBy dev ep packets steps result out.new back.old back.new) }
 {
     let Some(mut session) = slot.take(alloc) else {
         return NO_SESSION;
     };
-    let answer = turn_in(alloc, &mut session, dev, ep, packets, steps, back, told);
+    let answer = turn_in(alloc, &mut session, dev, ep, packets, steps, back, out);
     slot.put(alloc, session);
     answer
 }
@@ -491,71 +463,6 @@ pub extern "C" fn tirnouch_fetch(alloc: Global, slot: &mut Slot, buffer: &mut [u
     answer
 }
 
-/// A packet that a device of any number took.
-fn taken_in(session: &Session, dev: u8, ep: u8, i: usize, buffer: &mut [u8]) -> i32
-    ensures { TakenBy dev ep i result buffer.old buffer.new session.now }
-{
-    match device(dev) {
-        None => INVALID,
-        Some(dev) => reads::taken(session, dev, EpAddr::new(ep), i, buffer),
-    }
-}
-
-/// The packet of this index, from 0 on, that a device took at an endpoint: its length, and its bytes, as far as there is room; -1
-/// past the last.
-#[unsafe(no_mangle)]
-pub extern "C" fn tirnouch_taken(
-    alloc: Global,
-    slot: &mut Slot,
-    dev: u8,
-    ep: u8,
-    i: usize,
-    buffer: &mut [u8],
-) -> i32
-    ensures { ReadsSlot slot.old.held.value slot.new.held.value result (TakenBy dev ep i result buffer.old buffer.new) }
-{
-    let Some(session) = slot.take(alloc) else {
-        return NO_SESSION;
-    };
-    let answer = taken_in(&session, dev, ep, i, buffer);
-    slot.put(alloc, session);
-    answer
-}
-
-/// What is to be done at an endpoint of a number that may be no device's.
-fn look_in(session: &Session, dev: u8, ep: u8, told: &mut Told) -> i32
-    ensures { LooksBy dev ep result told.old told.new session.now }
-{
-    match device(dev) {
-        None => INVALID,
-        Some(dev) => {
-            reads::look(session, dev, EpAddr::new(ep), told);
-            0
-        }
-    }
-}
-
-/// What is to be done at an endpoint: `kind` is 1 where a packet does something there; `status` has 1 for an order, 2 for an event, 4
-/// for a result, wherever they are. Where a handle holds the endpoint, `n` is how many answers its device has left, and `amount` 1
-/// where it is halted, which tirnouch_call's clear halt ends (USB 2.0, 9.4.5); else these mean nothing.
-#[unsafe(no_mangle)]
-pub extern "C" fn tirnouch_look(
-    alloc: Global,
-    slot: &mut Slot,
-    dev: u8,
-    ep: u8,
-    told: &mut Told,
-) -> i32
-    ensures { ReadsSlot slot.old.held.value slot.new.held.value result (LooksBy dev ep result told.old told.new) }
-{
-    let Some(session) = slot.take(alloc) else {
-        return NO_SESSION;
-    };
-    let answer = look_in(&session, dev, ep, told);
-    slot.put(alloc, session);
-    answer
-}
-
 /// An answer for a device of a number that may be none.
 fn feed_in(alloc: Global, session: &mut Session, dev: u8, ep: u8, kind: u8, bytes: &[u8]) -> i32
     ensures { FeedsBy dev ep kind bytes.now result session.old session.new }
@@ -566,10 +473,10 @@ fn feed_in(alloc: Global, session: &mut Session, dev: u8, ep: u8, kind: u8, byte
     }
 }
 
-/// One more answer behind the script of a device's endpoint, as if it had stood there from the beginning; no step is made. `kind`: 0 a
-/// packet of these bytes, 1 taken, 2 not ready, 3 a stall, 4 a broken transaction. InvalidParam where the endpoint can't have it: there
-/// is none, it is of the other direction, its packet has more than 2,048 bytes, or the script has 65,536 answers. NoMem where memory is
-/// refused. Then nothing changed.
+/// One more answer behind the script of a device's endpoint, as if it had stood there from the beginning; no step is made. `kind` is of
+/// `enum tirnouch_answer`; a packet has these bytes. InvalidParam where the endpoint can't have it: there is none, it is of the other
+/// direction, its packet has more than 2,048 bytes, or the script has 65,536 answers. NoMem where memory is refused. Then nothing
+/// changed.
 #[unsafe(no_mangle)]
 pub extern "C" fn tirnouch_feed(
     alloc: Global,
@@ -589,46 +496,8 @@ pub extern "C" fn tirnouch_feed(
     answer
 }
 
-/// The packet that is next at an endpoint of a number that may be no device's.
-fn offer_in(session: &Session, dev: u8, ep: u8, buffer: &mut [u8], told: &mut Told) -> i32
-    ensures { OffersBy dev ep result told.old told.new buffer.old buffer.new session.now }
-{
-    match device(dev) {
-        None => INVALID,
-        Some(dev) => {
-            feeds::offer(session, dev, EpAddr::new(ep), buffer, told);
-            0
-        }
-    }
-}
-
-/// The packet that a device is to answer next at an endpoint; no step is made. `kind` is 3 where there is none: nobody holds the
-/// endpoint, it isn't running, or no transfer waits. Else it is 1 where the device is asked, since its script has no answer left, and 0
-/// where it isn't: it has one, is halted there, or is gone. `h` and `n` are the handle and the transfer. `amount` is how many bytes the
-/// packet has where the host sends, which stand in `buffer`, as far as there is room; how many it may have where the host reads.
-#[unsafe(no_mangle)]
-pub extern "C" fn tirnouch_offer(
-    alloc: Global,
-    slot: &mut Slot,
-    dev: u8,
-    ep: u8,
-    buffer: &mut [u8],
-    told: &mut Told,
-) -> i32
-    ensures { ReadsSlot slot.old.held.value slot.new.held.value result (OffersBy dev ep result told.old told.new buffer.old buffer.new) }
-{
-    let Some(session) = slot.take(alloc) else {
-        return NO_SESSION;
-    };
-    let answer = offer_in(&session, dev, ep, buffer, told);
-    slot.put(alloc, session);
-    answer
-}
-
 /// A device answers a request on its default control endpoint (USB 2.0, 9.3), of which these are the 8 bytes of the setup packet.
-/// What is read stands in `buffer`, as far as there is room. `kind` is 4 where the device isn't ready, else 11, with `status` and
-/// `amount` as of a transfer. `n` is 1 where a line `control` of the text answered, also that it isn't ready or by a stall; 0 where its
-/// descriptors did, or nothing is said of such a request, which stalls.
+/// What is read stands in `buffer`, as far as there is room.
 #[unsafe(no_mangle)]
 pub extern "C" fn tirnouch_request(
     alloc: Global,
@@ -636,75 +505,15 @@ pub extern "C" fn tirnouch_request(
     dev: u8,
     setup: &[u8; 8],
     buffer: &mut [u8],
-    told: &mut Told,
+    response: &mut ControlResponse,
 ) -> i32
-    ensures { InSlot slot.old.held.value slot.new.held.value result (Asks dev (packet_of setup.now) result told.new buffer.old buffer.new) }
+    ensures { InSlot slot.old.held.value slot.new.held.value result (Asks dev (packet_of setup.now) result response.new buffer.old buffer.new) }
 {
     let packet = SetupPacket::read(setup);
     let Some(mut session) = slot.take(alloc) else {
         return NO_SESSION;
     };
-    let answer = requests::ask(alloc, &mut session, dev, &packet, buffer, told);
-    slot.put(alloc, session);
-    answer
-}
-
-/// What a host has to hold for a request, of which these are the 8 bytes of the setup packet, as Linux has it: where a standard or
-/// class request is to an interface, that (`kind` 1, its number in `n`); where it is to an endpoint but 0, that (`kind` 2, its
-/// address in `ep`); else nothing (`kind` 0).
-#[unsafe(no_mangle)]
-pub extern "C" fn tirnouch_needs(setup: &[u8; 8], told: &mut Told) -> i32
-    ensures told { told.new ≡ needs_told (needs_of (packet_of setup.now)) }
-    ensures answer { result ≡ pos 0 }
-{
-    *told = Told::needs(SetupPacket::read(setup).needs());
-    0
-}
-
-/// A descriptor of a device by its type (USB 2.0, 9.4): 1 its device descriptor, 2 its configuration, 3 the string of an index, where
-/// index 0 has the languages of the others, if there are any. How long it is, and its bytes, as far as there is room; NotFound where
-/// there is none.
-#[unsafe(no_mangle)]
-pub extern "C" fn tirnouch_describe(
-    alloc: Global,
-    slot: &mut Slot,
-    dev: u8,
-    kind: u8,
-    index: u8,
-    buffer: &mut [u8],
-) -> i32
-    ensures { ReadsSlot slot.old.held.value slot.new.held.value result (Describes dev kind index result buffer.old buffer.new) }
-{
-    let Some(session) = slot.take(alloc) else {
-        return NO_SESSION;
-    };
-    let answer = descriptions::describe(&session, dev, kind, index, buffer);
-    slot.put(alloc, session);
-    answer
-}
-
-/// What the text says of a device in numbers. `what`: 0 its speed in `kind` (libusb 1.0, `libusb_speed`), in `status` 1 where it
-/// isn't there yet, in `amount` 1 where it begins anew with each claim, and in `n` 1 where a reset doesn't begin it anew; 1 the interface in
-/// `n` for which the system has a driver; 2 answers that wait: those of `ep` from place `amount` on, where `kind` is 0 until `n` packets were
-/// taken at the endpoint in `status`, or, where that is `ep`, until `n` transfers ended there without an answer, or, where it is 0, until `n`
-/// requests were made; where `kind` is 1 until `n` requests were made whose setup packets begin with the six lowest bytes of `payload`, the
-/// lowest first, but that the type is any where bit 0 of `status` is set, the number where bit 1 is, the value where bit 2 is, and the index where
-/// bit 3 is; 3 when it is pulled out: behind `amount` answers of `ep`. Of several that of index `i`, from 0 on; NotFound past the last.
-#[unsafe(no_mangle)]
-pub extern "C" fn tirnouch_tell(
-    alloc: Global,
-    slot: &mut Slot,
-    dev: u8,
-    what: u8,
-    i: usize,
-    told: &mut Told,
-) -> i32
-    ensures { ReadsSlot slot.old.held.value slot.new.held.value result (Tells dev what i result told.old told.new) }
-{
-    let Some(session) = slot.take(alloc) else {
-        return NO_SESSION;
-    };
-    let answer = descriptions::tell(&session, dev, what, i, told);
+    let answer = requests::ask(alloc, &mut session, dev, &packet, buffer, response);
     slot.put(alloc, session);
     answer
 }

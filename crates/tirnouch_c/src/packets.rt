@@ -3,8 +3,8 @@
 ghost use Rattle.std.specs.Prelude.{◌≡◌, ◌<◌, Bool};
 ghost use Rattle.tirnouch_c.specs.Packets.{Serves, ServesRow, goes_on};
 
+use crate::replies::StepReply;
 use crate::session::Session;
-use crate::told::Told;
 use usb_model::{DeviceNo, EpAddr, Reply};
 
 /// Whether a device has an answer left at an endpoint, or is halted there.
@@ -27,33 +27,33 @@ fn goes_on(session: &Session, dev: DeviceNo, ep: EpAddr, reply: &Reply) -> bool
     }
 }
 
-/// A device answers packets in a row at an endpoint, at most so many: what is told of the last one, with how many they were, and
-/// whether the endpoint may be served once more.
-fn serve_row(session: &mut Session, dev: DeviceNo, ep: EpAddr, most: u32) -> (Told, bool)
+/// A device answers packets in a row at an endpoint, at most so many: the reply of the last one, with how many they were, and whether
+/// the endpoint may be served once more.
+fn serve_row(session: &mut Session, dev: DeviceNo, ep: EpAddr, most: u32) -> (StepReply, bool)
     requires { 0 < most }
     ensures { ServesRow dev ep most result session.old session.new }
 {
     let burst = session.core.serve_burst(dev, ep, most);
     let further = goes_on(session, dev, ep, &burst.last.reply);
-    let told = Told {
-        amount: burst.full + 1,
-        ..Told::of(&burst.last)
+    let reply = StepReply {
+        packets: burst.full + 1,
+        ..StepReply::of(&burst.last)
     };
-    (told, further)
+    (reply, further)
 }
 
-/// A device answers packets at an endpoint, at most so many: until one ends a transfer, or it has no answer. What is told is the
-/// last one, and how many they were.
-pub fn serve(session: &mut Session, dev: DeviceNo, ep: EpAddr, most: u32, told: &mut Told)
-    ensures { Serves dev ep most told.new session.old session.new }
+/// A device answers packets at an endpoint, at most so many: until one ends a transfer, or it has no answer. The reply is that of the
+/// last one, with how many they were.
+pub fn serve(session: &mut Session, dev: DeviceNo, ep: EpAddr, most: u32, reply: &mut StepReply)
+    ensures { Serves dev ep most reply.new session.old session.new }
 {
-    *told = Told::nothing();
+    *reply = StepReply::nothing();
     let mut done = 0;
     while done < most {
         let (row, further) = serve_row(session, dev, ep, most - done);
-        done += row.amount;
-        *told = Told {
-            amount: done,
+        done += row.packets;
+        *reply = StepReply {
+            packets: done,
             ..row
         };
         if !further {

@@ -5,13 +5,35 @@ ghost use Rattle.usb_model.specs.declared.step.Step.TheVariants.{Serve};
 ghost use Rattle.usb_core.specs.Public.{ShowsWorld};
 ghost use Rattle.usb_model.specs.Setup.{Setup};
 ghost use Rattle.usb_model.specs.World.{World};
+ghost use Rattle.tirnouch_c.specs.Replies.{bit};
 ghost use Rattle.tirnouch_c.specs.Settling.{Advances, ServesNext, Settles, is_something, next_packet, next_step};
 
 use crate::session::Session;
-use crate::told::Told;
 use usb_core::Core;
 use usb_device::TableDevice;
 use usb_model::{DeviceNo, EpAddr, Step};
+
+/// How far `tirnouch_settle` came.
+#[repr(C)]
+#[derive(Clone, Copy, Drop)]
+pub struct SettleProgress {
+    /// How many steps were made.
+    pub steps: u32,
+    /// 1 where nothing is left to be done, else 0.
+    pub is_settled: u8,
+}
+
+impl SettleProgress {
+    /// So many steps were made; whether nothing is left.
+    pub fn new(steps: u32, is_settled: bool) -> SettleProgress
+        ensures { result ≡ record { steps = steps; is_settled = bit is_settled } }
+    {
+        SettleProgress {
+            steps,
+            is_settled: u8::from(is_settled),
+        }
+    }
+}
 
 /// Where the packet is that is to be served next.
 fn next_packet(core: &Core<u64, TableDevice>) -> Option<(DeviceNo, EpAddr)>
@@ -56,17 +78,16 @@ fn is_left(core: &Core<u64, TableDevice>, packets: bool) -> bool
     core.has_event() || core.has_order() || packets && next_packet(core).is_some()
 }
 
-/// Makes what is to be done, at most so many steps, with packets or without; how many they were is told, and whether nothing is
-/// left.
-pub fn settle(session: &mut Session, packets: bool, most: u32, told: &mut Told)
-    ensures { Settles packets most told.new session.old session.new }
+/// Makes what is to be done, at most so many steps, with packets or without; how many they were, and whether nothing is left.
+pub fn settle(session: &mut Session, packets: bool, most: u32, progress: &mut SettleProgress)
+    ensures { Settles packets most progress.new session.old session.new }
 {
     for done in 0..most {
         if !advance(&mut session.core, packets) {
-            *told = Told::settled(done, true);
+            *progress = SettleProgress::new(done, true);
             return;
         }
     }
     let left = is_left(&session.core, packets);
-    *told = Told::settled(most, !left);
+    *progress = SettleProgress::new(most, !left);
 }

@@ -5,11 +5,11 @@ ghost use Rattle.usb_model.specs.declared.refused.Refused.TheVariants.{NoMem};
 ghost use Rattle.usb_model.specs.declared.reply.Reply.TheVariants.{Refused as IsRefused};
 ghost use Rattle.usb_model.specs.declared.request.Body.TheVariants.{In};
 ghost use Rattle.usb_tables.specs.Tds.{memory_left};
-ghost use Rattle.tirnouch_c.specs.Told.{code_of, told_of};
+ghost use Rattle.tirnouch_c.specs.Replies.{code_of, entry_numbers};
 ghost use Rattle.tirnouch_c.specs.Submission.{Submits, body_by, kind_by, request_by, request_over};
 
+use crate::replies::{StepReply, code_of};
 use crate::session::Session;
-use crate::told::{Told, code_of};
 use bitflags::Flags as _;
 use std::alloc::{AllocError, Global};
 use usb_core::SubmitError;
@@ -89,29 +89,29 @@ pub fn request_over(
 }
 
 /// What was answered, in numbers.
-pub fn answer(h: Name, reply: Reply, told: &mut Told) -> i32
+pub fn answer(h: Name, reply: Reply, numbers: &mut StepReply) -> i32
     ensures answer { result ≡ code_of reply }
-    ensures told { told.new ≡ told_of (record { owner = Some h; reply = reply }) }
+    ensures numbers { numbers.new ≡ entry_numbers (record { owner = Some h; reply = reply }) }
 {
     let entry = Entry {
         owner: Some(h),
         reply,
     };
-    *told = Told::of(&entry);
+    *numbers = StepReply::of(&entry);
     code_of(&entry.reply)
 }
 
 /// Submits a transfer, with which this is kept, that reads into this memory, where that has room for just what it reads; its answer is
-/// libusb's number of a refusal, else 0, and its number is told.
+/// libusb's number of a refusal, else 0.
 pub fn submit_into(
     session: &mut Session,
     h: Name,
     request: Request,
     memory: &mut Buffer,
     payload: u64,
-    told: &mut Told,
+    numbers: &mut StepReply,
 ) -> i32
-    ensures submitted { Submits h request payload result told.new session.old session.new }
+    ensures submitted { Submits h request payload result numbers.new session.old session.new }
     ensures accepted { result ≡ pos 0 → memory.new ≡ memory_left request.body memory.old }
     ensures refused { (result ≡ pos 0 → ⊥) → memory.new ≡ record memory.old { items = memory.new.items } }
 {
@@ -119,7 +119,7 @@ pub fn submit_into(
         Ok(n) => Reply::Number(n),
         Err(SubmitError { why, .. }) => Reply::Refused(why),
     };
-    answer(h, reply, told)
+    answer(h, reply, numbers)
 }
 
 /// The same, with memory of the library's.
@@ -129,17 +129,24 @@ pub fn submit(
     h: Name,
     request: Request,
     payload: u64,
-    told: &mut Told,
+    numbers: &mut StepReply,
 ) -> i32
-    ensures { Submits h request payload result told.new session.old session.new }
+    ensures { Submits h request payload result numbers.new session.old session.new }
 {
-    submit_into(session, h, request, &mut Buffer::new(alloc), payload, told)
+    submit_into(
+        session,
+        h,
+        request,
+        &mut Buffer::new(alloc),
+        payload,
+        numbers,
+    )
 }
 
 /// No memory was had for what a transfer carries.
-pub fn refuse(h: Name, told: &mut Told) -> i32
+pub fn refuse(h: Name, numbers: &mut StepReply) -> i32
     ensures answer { result ≡ code_of (IsRefused NoMem) }
-    ensures told { told.new ≡ told_of (record { owner = Some h; reply = IsRefused NoMem }) }
+    ensures numbers { numbers.new ≡ entry_numbers (record { owner = Some h; reply = IsRefused NoMem }) }
 {
-    answer(h, Reply::Refused(Refused::NoMem), told)
+    answer(h, Reply::Refused(Refused::NoMem), numbers)
 }

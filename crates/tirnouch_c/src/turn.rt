@@ -5,15 +5,15 @@ ghost use Rattle.tirnouch_c.specs.Turn.{Works};
 
 use crate::LentMemory;
 use crate::packets::serve;
-use crate::results::take;
+use crate::replies::StepReply;
+use crate::results::{TakenResult, take};
 use crate::session::Session;
-use crate::settling::settle;
-use crate::told::Told;
+use crate::settling::{SettleProgress, settle};
 use std::alloc::Global;
 use usb_model::{DeviceNo, EpAddr};
 
 /// Packets at an endpoint, at most so many; what is to be done behind them, without other packets, at most so many steps; and the
-/// oldest result, which is told. Memory that C lent for it goes back.
+/// oldest result. Memory that C lent for it goes back.
 pub fn work(
     alloc: Global,
     session: &mut Session,
@@ -22,11 +22,13 @@ pub fn work(
     packets: u32,
     steps: u32,
     back: &mut LentMemory,
-    told: &mut Told,
+    out: &mut TakenResult,
 ) -> i32
-    ensures { Works dev ep packets steps result told.new back.old back.new session.old session.new }
+    ensures { Works dev ep packets steps result out.new back.old back.new session.old session.new }
 {
-    serve(session, dev, ep, packets, told);
-    settle(session, false, steps, told);
-    take(alloc, session, back, told)
+    let mut served = StepReply::nothing();
+    let mut settled = SettleProgress::new(0, false);
+    serve(session, dev, ep, packets, &mut served);
+    settle(session, false, steps, &mut settled);
+    take(alloc, session, back, out)
 }

@@ -11,8 +11,8 @@ pub returns-then-not-advance : goal.returns-then-not-advance
 returns-then-not-advance c =
     let off : c.advance.result ≡ false = search rules in
     let none : Advances c.args.packets false c.loop-done.session.core c.advance.new.core = subst (λ (b : Bool). Advances c.args.packets b c.loop-done.session.core c.advance.new.core) off c.advance.ensures in
-    settled c.args.packets true c.args.most c.loop-done.done c.args.session.now c.loop-done.session _ c.settled.result c.loop-done.invariant
-    (no_step_more c.args.packets c.loop-done.done c.args.session.now c.loop-done.session _ c.loop-done.invariant none (refl, refl)) (omega arith) (λ _ setup w shows. sym (none.made_is setup w shows)) (λ is. absurd cc) c.settled.ensures
+    settled c.args.packets true c.args.most c.loop-done.done c.args.session.now c.loop-done.session _ c.new.result c.loop-done.invariant
+    (no_step_more c.args.packets c.loop-done.done c.args.session.now c.loop-done.session _ c.loop-done.invariant none (refl, refl)) (omega arith) (λ _ setup w shows. sym (none.made_is setup w shows)) (λ is. absurd cc) c.new.ensures
 
 pub loop-done-preserved : goal.loop-done-preserved
 loop-done-preserved c =
@@ -25,5 +25,5 @@ pub returns : goal.returns
 returns c =
     let all : c.loop-done.done ≡ c.args.most = omega arith in
     let so_far : Working c.args.packets c.args.most c.args.session.now c.loop-done.session = subst (λ (n : ℕ). Working c.args.packets n c.args.session.now c.loop-done.session) all c.loop-done.invariant in
-    settled c.args.packets (not c.is_left-left.result) c.args.most c.args.most c.args.session.now c.loop-done.session c.loop-done.session c.settled-2.result so_far so_far (omega arith)
-    (λ is setup w shows. sym (c.is_left-left.ensures setup w shows) ∙ not_so c.is_left-left.result is) (λ _. refl) c.settled-2.ensures
+    settled c.args.packets (not c.is_left-left.result) c.args.most c.args.most c.args.session.now c.loop-done.session c.loop-done.session c.new-2.result so_far so_far (omega arith)
+    (λ is setup w shows. sym (c.is_left-left.ensures setup w shows) ∙ not_so c.is_left-left.result is) (λ _. refl) c.new-2.ensures

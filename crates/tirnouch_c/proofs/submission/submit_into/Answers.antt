@@ -11,4 +11,4 @@ returns-clause-submitted c =
       | in-Ok w ↦ accepted_as c.args.h c.args.request c.args.payload _ _ c.submit_into.result _ c.match-submit_into.reply w.in-Ok.is w.reply-is c.submit_into.ensures.accepted c.submit_into.ensures.carries
       | in-Err w ↦ unaccepted_as c.args.h c.args.request c.args.payload _ _ c.submit_into.result _ c.match-submit_into.reply w.in-Err.is w.reply-is c.submit_into.ensures.refused c.submit_into.ensures.kept c.submit_into.ensures.still
     ] in
-    record { reply = c.match-submit_into.reply; answered = search rules; told_is = c.answer.ensures.told; made = made; same = (refl, refl) }
+    record { reply = c.match-submit_into.reply; answered = search rules; numbers_is = c.answer.ensures.numbers; made = made; same = (refl, refl) }

@@ -1,7 +1,7 @@
 -- What a device took, where there is such a device.
 use Rattle.std.proofs.Common.{◌≡◌, ◌∙◌, ℕ, Option, Some, negsuc, refl, sym, subst, rules}
-use Rattle.tirnouch_c.specs.Exports.{TakenBy, TakenIf}
-use Rattle.tirnouch_c.proofs.exports.taken_in.Goals as goal
+use Rattle.tirnouch_c.specs.Questions.{TakenBy, TakenIf}
+use Rattle.tirnouch_c.proofs.questions.taken_in.Goals as goal
 
 pub returns-in-None : goal.returns-in-None
 returns-in-None c = subst (λ (o : Option ℕ). TakenIf o c.args.ep c.args.i (negsuc 1) c.args.buffer.now c.args.buffer.now c.args.session.now) (sym c.in-None.is ∙ c.device.ensures) (refl, refl)
