@@ -25,9 +25,9 @@ use crate::{
     submission, turn,
 };
 use std::alloc::Global;
-use trace_scenario::TextFault;
 use usb_devicetext::SetupPacket;
 use usb_model::{Buffer, DeviceNo, EpAddr, Name, Step};
+use usb_scripttext::TextFault;
 
 /// The answer of a slot that holds no session (libusb 1.0, `LIBUSB_ERROR_OTHER`).
 const NO_SESSION: i32 = -99;

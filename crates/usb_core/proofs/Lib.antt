@@ -23,4 +23,5 @@ mod Unsized
 mod Rises
 pub mod CallsBack
 mod PlainSteps
+mod MadeDevices
 pub mod FedCores
