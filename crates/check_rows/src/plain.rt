@@ -7,7 +7,8 @@ use std::alloc::{AllocError, Global};
 use std::io::Write;
 use std::result;
 use trace_io::print::print;
-use trace_scenario::{Scenario, into_setups, read_scenario};
+use trace_scenario::{Scenario, read_scenario};
+use usb_device::into_setups;
 use usb_model::{Entry, Name, Sequence};
 
 /// What stands before what it prints.

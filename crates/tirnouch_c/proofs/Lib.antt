@@ -2,7 +2,6 @@ pub mod LentCalls
 pub mod LentValues
 pub mod HeldValues
 pub mod Values
-pub mod MadeDevices
 pub mod Quiet
 pub mod Progress
 pub mod Rows

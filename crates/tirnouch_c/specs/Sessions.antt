@@ -3,8 +3,8 @@ use Rattle.std.specs.Prelude.{◌≡◌, ℕ, List, None, Ok}
 use Rattle.usb_core.specs.Public.{Carries, Kept, ShowsWorld}
 use Rattle.usb_devicetext.specs.declared.desk.DeviceText.{DeviceText}
 use Rattle.usb_devicetext.specs.DeviceText.{desk_of}
-use Rattle.trace_scenario.specs.TextResults.{IsFaultOf}
-use Rattle.trace_scenario.specs.declared.text_fault.TextFault.{TextFault}
+use Rattle.usb_scripttext.specs.Results.{IsFaultOf}
+use Rattle.usb_scripttext.specs.declared.text_fault.TextFault.{TextFault}
 use Rattle.usb_model.specs.World.{new_world}
 use Rattle.tirnouch_c.specs.declared.session.Session.{Session}
 

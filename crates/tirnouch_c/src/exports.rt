@@ -27,9 +27,9 @@ use crate::{
     LentMemory, complaints, feeds, packets, requests, results, settling, submission, turn,
 };
 use std::alloc::Global;
-use trace_scenario::TextFault;
 use usb_devicetext::SetupPacket;
 use usb_model::{Buffer, DeviceNo, EpAddr, Name, Step};
+use usb_scripttext::TextFault;
 
 /// The answer of a slot that holds no session (libusb 1.0, `LIBUSB_ERROR_OTHER`).
 pub const NO_SESSION: i32 = -99;

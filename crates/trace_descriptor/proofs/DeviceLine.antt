@@ -13,12 +13,14 @@ use Rattle.usb_descriptors.specs.Grammar.{reading}
 use Rattle.trace_scenario.specs.declared.line.Line.TheVariants as line
 use Rattle.trace_scenario.specs.declared.scenario.Scenario.{Scenario}
 use Rattle.trace_scenario.specs.declared.verb.Verb.TheVariants as verb
-use Rattle.trace_scenario.specs.Line.{device_line_of, is_ascii, line_by, line_of, line_of_text}
-use Rattle.trace_scenario.specs.Number.{bytes_of, device_of}
-use Rattle.trace_scenario.specs.Scenario.{new_device, nothing_said, scenario_from, taken_at, with_line, with_text}
+use Rattle.trace_scenario.specs.Line.{device_line_of, line_by, line_of, line_of_text}
+use Rattle.usb_scripttext.specs.Words.{is_ascii}
+use Rattle.usb_scripttext.specs.Number.{bytes_of, device_of}
+use Rattle.usb_scripttext.specs.Devices.{new_device}
+use Rattle.trace_scenario.specs.Scenario.{nothing_said, scenario_from, taken_at, with_line, with_text}
 use Rattle.trace_scenario.specs.Verb.{verb_of}
-use Rattle.trace_scenario.specs.Words.{words_in}
-use Rattle.trace_scenario.proofs.Numbers.{taken}
+use Rattle.usb_scripttext.specs.Words.{words_in}
+use Rattle.usb_scripttext.proofs.Numbers.{taken}
 use Rattle.trace_descriptor.specs.Lines.{device_line}
 use Rattle.trace_descriptor.proofs.Plain.{digits_pass, none_of, plain, plain_encode, plain_join}
 use Rattle.trace_descriptor.proofs.Quiet.{lines}

@@ -3,7 +3,8 @@ use Rattle.std.specs.Prelude.{◌≡◌, ℕ, List, [], ◌∷◌, Ok}
 use Rattle.hex.specs.Hex.{IsBytes}
 use Rattle.usb_model.specs.declared.setup.Configuration.{Configuration}
 use Rattle.usb_descriptors.specs.Grammar.{reading}
-use Rattle.trace_scenario.specs.Scenario.{new_device, scenario_of}
+use Rattle.usb_scripttext.specs.Devices.{new_device}
+use Rattle.trace_scenario.specs.Scenario.{scenario_of}
 use Rattle.trace_descriptor.specs.Device.{device_text}
 use Rattle.trace_descriptor.specs.File.{FileParts, parts_of}
 use Rattle.trace_descriptor.specs.Input.{bytes_of}

@@ -11,7 +11,7 @@ use Rattle.clap.specs.declared.builder.action.ArgAction.TheVariants.{Set, SetTru
 use Rattle.clap.specs.declared.builder.value_parser.ValueParser.TheVariants.{Unsigned}
 use Rattle.clap.specs.declared.error.kind.ErrorKind.{ErrorKind}
 use Rattle.clap.specs.declared.error.kind.ErrorKind.TheVariants.{DisplayHelp}
-use Rattle.trace_scenario.specs.Number.{last_handle}
+use Rattle.trace_scenario.specs.Handle.{last_handle}
 use Rattle.trace_recorded.specs.declared.reader.TextReader.{TextReader}
 use Rattle.trace_recorded.specs.declared.reader.TextReader.TheVariants.{Library, Scenario}
 use Rattle.trace_io.specs.declared.words.Task.{Task}

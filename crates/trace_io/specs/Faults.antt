@@ -3,8 +3,8 @@ use Rattle.std.specs.Prelude.{◌++◌, ◌<◌, ℕ, Bool, List, Option, ⊤, I
 use Rattle.std.specs.Fmt.{decimal}
 use Rattle.std.specs.declared.io.ErrorKind.{ErrorKind}
 use Rattle.std.specs.declared.io.ErrorKind.TheVariants.{BrokenPipe, OutOfMemory}
-use Rattle.trace_scenario.specs.declared.text_fault.TextFault.{TextFault}
-use Rattle.trace_scenario.specs.declared.text_fault.TextFault.TheVariants as text
+use Rattle.usb_scripttext.specs.declared.text_fault.TextFault.{TextFault}
+use Rattle.usb_scripttext.specs.declared.text_fault.TextFault.TheVariants as text
 use Rattle.trace_io.specs.declared.fault.Fault.{Fault}
 use Rattle.trace_io.specs.declared.fault.Fault.TheVariants.{Line, Memory, InputOutput, Closed, TooLong, Rounds, Wide, Capture, Descriptor}
 use Rattle.trace_recorded.specs.declared.capture_fault.CaptureFault.{CaptureFault}

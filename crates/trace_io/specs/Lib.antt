@@ -1,6 +1,6 @@
 pub mod CommandLine
-pub use Rattle.trace_scenario.specs.Number
-pub use Rattle.trace_scenario.specs.Words
+pub use Rattle.usb_scripttext.specs.Number
+pub use Rattle.usb_scripttext.specs.Words
 pub mod Faults
 pub mod Input
 pub mod Output

@@ -15,7 +15,7 @@ use std::{fmt, io};
 use thiserror::Error;
 use trace_descriptor::DescriptorFault;
 use trace_recorded::CaptureFault;
-use trace_scenario::TextFault;
+use usb_scripttext::TextFault;
 
 /// How many bytes a message may have. The longest, of a descriptor at an offset of 20 digits, has 130.
 const ROOM: usize = 160;

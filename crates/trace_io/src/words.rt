@@ -10,7 +10,7 @@ ghost use Rattle.clap.specs.Simple.{app_of, shape_of};
 ghost use Rattle.clap.specs.declared.builder.command.Command.TheViews.{out-Command as fields_of};
 ghost use Rattle.clap.specs.Walk.{rows_of, rule_of};
 ghost use Rattle.trace_io.specs.CommandLine.{AskFor, alone_words, capture_words, check_words, describe_words, device_words, devices_in, devices_words, draw_words, drawing_in, explain_words, from_word, grammar, handle_in, handle_word, html_word, is_set, left_words, live_words, number_in, packets_word, program_alone, program_of_captures, program_of_reasons, program_of_runs, program_of_scenarios, rounds_word, run_in, run_words, scenario_word, steps_word, test_words, to_word};
-ghost use Rattle.trace_scenario.specs.Words.{words_of};
+ghost use Rattle.usb_scripttext.specs.Words.{words_of};
 
 use crate::help;
 use clap::builder::ValueParser;

@@ -5,7 +5,7 @@ use Rattle.std.specs.Prelude.{◌&&◌, if◌then◌else◌, nat_lt}
 use Rattle.std.specs.List.{AllByRecursion, IsDistinct, position_or_len}
 use Rattle.std.proofs.lemmas.Bool.{and_parts, cases_eq}
 use Rattle.trace_scenario.specs.declared.expectations.ExpectedPackets.{ExpectedPackets}
-use Rattle.trace_scenario.specs.declared.expected_packet.ExpectedPacket.{ExpectedPacket}
+use Rattle.usb_scripttext.specs.declared.expected_packet.ExpectedPacket.{ExpectedPacket}
 use Rattle.trace_judged.specs.Expected.{expected_at, expected_by}
 use Rattle.trace_judged.specs.Gathered.{HasEndpointsOnce, is_of}
 

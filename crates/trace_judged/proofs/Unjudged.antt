@@ -14,8 +14,8 @@ use Rattle.usb_model.specs.Setup.{Setup, endpoints_of}
 use Rattle.usb_model.specs.World.{World, new_world, world_from}
 use Rattle.usb_model.specs.World.Plans.{Stage, expand, first_stage, stage_after, steps_of}
 use Rattle.trace_scenario.specs.declared.expectations.ExpectedPackets.{ExpectedPackets}
-use Rattle.trace_scenario.specs.declared.expected_packet.ExpectedPacket.{ExpectedPacket}
-use Rattle.trace_scenario.specs.declared.expected_packet.ExpectedPacket.TheVariants.{Anything, Exactly, Beginning}
+use Rattle.usb_scripttext.specs.declared.expected_packet.ExpectedPacket.{ExpectedPacket}
+use Rattle.usb_scripttext.specs.declared.expected_packet.ExpectedPacket.TheVariants.{Anything, Exactly, Beginning}
 use Rattle.trace_judged.specs.declared.difference.Difference.{Difference}
 use Rattle.trace_judged.specs.declared.missing.Missing.{Missing}
 use Rattle.trace_judged.specs.Differences.{difference_by, difference_of, differences, differences_from, next_index, piece_difference, step_difference, taken_at}

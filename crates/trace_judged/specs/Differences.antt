@@ -10,7 +10,7 @@ use Rattle.usb_model.specs.Setup.{Setup}
 use Rattle.usb_model.specs.World.{World, turn}
 use Rattle.usb_model.specs.World.Plans.{Stage, first_stage, stage_after, steps_of}
 use Rattle.trace_scenario.specs.declared.expectations.ExpectedPackets.{ExpectedPackets}
-use Rattle.trace_scenario.specs.declared.expected_packet.ExpectedPacket.{ExpectedPacket}
+use Rattle.usb_scripttext.specs.declared.expected_packet.ExpectedPacket.{ExpectedPacket}
 use Rattle.trace_judged.specs.declared.difference.Difference.{Difference}
 use Rattle.trace_judged.specs.Expected.{differs_at, expected_at}
 

@@ -4,8 +4,8 @@ use denote.Ref.{Bor}
 use Rattle.std.specs.List.{common_prefix_len, flat_map, starts_with}
 use Rattle.std.specs.Str.{bytes_eq}
 use Rattle.trace_scenario.specs.declared.expectations.ExpectedPackets.{ExpectedPackets}
-use Rattle.trace_scenario.specs.declared.expected_packet.ExpectedPacket.{ExpectedPacket}
-use Rattle.trace_scenario.specs.declared.expected_packet.ExpectedPacket.TheVariants.{Anything, Exactly, Beginning}
+use Rattle.usb_scripttext.specs.declared.expected_packet.ExpectedPacket.{ExpectedPacket}
+use Rattle.usb_scripttext.specs.declared.expected_packet.ExpectedPacket.TheVariants.{Anything, Exactly, Beginning}
 
 -- what a line expects at this endpoint
 abbrev pub expected_by : ℕ → ℕ → ExpectedPackets → List ExpectedPacket

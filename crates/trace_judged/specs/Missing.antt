@@ -5,8 +5,8 @@ use Rattle.std.specs.Option.{option_and_then, option_map, option_to_list}
 use Rattle.usb_model.specs.Setup.{Setup, endpoints_of}
 use Rattle.usb_model.specs.World.{World}
 use Rattle.trace_scenario.specs.declared.expectations.ExpectedPackets.{ExpectedPackets}
-use Rattle.trace_scenario.specs.declared.expected_packet.ExpectedPacket.{ExpectedPacket}
-use Rattle.trace_scenario.specs.declared.expected_packet.ExpectedPacket.TheVariants.{Anything}
+use Rattle.usb_scripttext.specs.declared.expected_packet.ExpectedPacket.{ExpectedPacket}
+use Rattle.usb_scripttext.specs.declared.expected_packet.ExpectedPacket.TheVariants.{Anything}
 use Rattle.trace_judged.specs.declared.missing.Missing.{Missing}
 use Rattle.trace_judged.specs.Differences.{next_index}
 use Rattle.trace_judged.specs.Expected.{expected_at}

@@ -5,8 +5,8 @@ use Rattle.std.specs.List.{flat_map}
 use Rattle.hex.specs.Hex.{encode_lower}
 use Rattle.usb_model.specs.Text.{hex_byte}
 use Rattle.trace_scenario.specs.Counts.{plural_end}
-use Rattle.trace_scenario.specs.declared.expected_packet.ExpectedPacket.{ExpectedPacket}
-use Rattle.trace_scenario.specs.declared.expected_packet.ExpectedPacket.TheVariants.{Beginning}
+use Rattle.usb_scripttext.specs.declared.expected_packet.ExpectedPacket.{ExpectedPacket}
+use Rattle.usb_scripttext.specs.declared.expected_packet.ExpectedPacket.TheVariants.{Beginning}
 use Rattle.trace_judged.specs.declared.difference.Difference.{Difference}
 use Rattle.trace_judged.specs.declared.missing.Missing.{Missing}
 use Rattle.trace_judged.specs.declared.unexpected.Unexpected.{Unexpected}

@@ -9,8 +9,8 @@ ghost use Rattle.trace_judged.specs.Differences.{difference_of, next_index, rece
 use crate::expected::{copy_expected, copy_of, differs_at};
 use reference::System;
 use std::alloc::{AllocError, Global};
-use trace_scenario::ExpectedPacket;
 use usb_model::{Bytes, DeviceNo, EpAddr};
+use usb_scripttext::ExpectedPacket;
 
 /// A packet that a device took and that isn't as expected.
 #[derive(Debug, Drop)]

@@ -5,8 +5,9 @@ ghost use Rattle.std.specs.Option.{option_copied};
 ghost use Rattle.trace_judged.specs.Expected.{bytes_expected, differs_at, expected_at, expected_by, in_common, is_expected, packets_of};
 
 use std::alloc::{AllocError, Global};
-use trace_scenario::{ExpectedPacket, ExpectedPackets};
+use trace_scenario::ExpectedPackets;
 use usb_model::{Bytes, DeviceNo, EpAddr};
+use usb_scripttext::ExpectedPacket;
 
 /// What a line expects at an endpoint: nothing, where it is another's.
 fn expected_by<'a>(line: &'a ExpectedPackets, dev: DeviceNo, ep: EpAddr) -> &'a [ExpectedPacket]

@@ -6,8 +6,9 @@ ghost use Rattle.trace_judged.specs.Expected.{expected_at, expected_by};
 ghost use Rattle.trace_judged.specs.Gathered.{HasEndpointsOnce, is_of};
 
 use std::alloc::{AllocError, Global};
-use trace_scenario::{ExpectedPacket, ExpectedPackets};
+use trace_scenario::ExpectedPackets;
 use usb_model::{DeviceNo, EpAddr, Sequence};
+use usb_scripttext::ExpectedPacket;
 
 /// Whether a line is of this endpoint.
 fn is_of(line: &ExpectedPackets, dev: DeviceNo, ep: EpAddr) -> bool

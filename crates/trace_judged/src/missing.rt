@@ -12,8 +12,9 @@ use crate::difference::next_index;
 use crate::expected::{copy_expected, expected_at};
 use reference::System;
 use std::alloc::{AllocError, Global};
-use trace_scenario::{ExpectedPacket, ExpectedPackets};
+use trace_scenario::ExpectedPackets;
 use usb_model::{DeviceNo, EpAddr, Setup};
+use usb_scripttext::ExpectedPacket;
 
 /// The packets that never came at an endpoint, since its script began last. One that may be anything isn't missed.
 #[derive(Debug, Drop)]

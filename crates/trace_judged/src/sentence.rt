@@ -9,8 +9,8 @@ use crate::difference::Difference;
 use crate::expected::bytes_expected;
 use crate::missing::Missing;
 use std::alloc::{AllocError, Global};
-use trace_scenario::ExpectedPacket;
 use usb_model::{DeviceNo, EpAddr};
+use usb_scripttext::ExpectedPacket;
 
 /// How many bytes are shown before one that differs, and how many behind it.
 const AROUND: usize = 16;

@@ -2,7 +2,7 @@
 
 ghost use Rattle.std.specs.Prelude.{◌≡◌, IfErr, IfOk, Ok, length, map};
 ghost use Rattle.trace_scenario.specs.Scenario.{scenario_of};
-ghost use Rattle.trace_scenario.specs.TextResults.{IsFaultOf};
+ghost use Rattle.usb_scripttext.specs.Results.{IsFaultOf};
 ghost use Rattle.trace_scenario.specs.declared.scenario.Scenario.{Scenario};
 ghost use Rattle.trace_scenario.specs.StepLines.{numbered};
 ghost use Rattle.trace_judged.specs.Missing.{is_wanted};
@@ -12,11 +12,10 @@ use crate::gathered::gathered;
 use crate::judged::judge;
 use crate::unexpected::Unexpected;
 use std::alloc::{AllocError, Global};
-use trace_scenario::{
-    ExpectedPacket, ExpectedPackets, Lined, NumberedLine, Scenario, TextFault, into_setups,
-    read_expected, read_lined,
-};
+use trace_scenario::{ExpectedPackets, Lined, NumberedLine, Scenario, read_expected, read_lined};
+use usb_device::into_setups;
 use usb_model::{Plan, Rule, Setup};
+use usb_scripttext::{ExpectedPacket, TextFault};
 
 /// Whether a packet is expected that isn't any.
 fn is_wanted(packet: &ExpectedPacket) -> bool

@@ -12,5 +12,5 @@ pub use Rattle.usb_model.specs.Machine.Turns
 pub use Rattle.trace_scenario.specs.Counts
 pub use Rattle.trace_scenario.specs.Findings
 pub use Rattle.trace_scenario.specs.Scenario
-pub use Rattle.trace_scenario.specs.Words
+pub use Rattle.usb_scripttext.specs.Words
 pub use Rattle.trace_scenario.specs.StepLines

@@ -18,7 +18,8 @@ use trace_explain::{Telling, explained_run};
 use trace_io::Fault;
 use trace_io::print::print_findings;
 use trace_run::TaskEnd;
-use trace_scenario::{Counts, Lined, NumberedLine, Scenario, check, into_setups, read_lined};
+use trace_scenario::{Counts, Lined, NumberedLine, Scenario, check, read_lined};
+use usb_device::into_setups;
 
 /// Checks a text: prints its bad lines, and how much the good ones say; and of a text without a bad line which lines its run refuses, and why.
 pub(crate) fn report<W: Write>(alloc: Global, text: &[u8], out: &mut W) -> Result<TaskEnd, Fault>

@@ -14,7 +14,8 @@ use std::io::Write;
 use trace_io::Fault;
 use trace_judged::judged_text;
 use trace_run::{TaskEnd, print_left, print_steps, run};
-use trace_scenario::{Lined, TextFault, read_lined, read_scenario};
+use trace_scenario::{Lined, read_lined, read_scenario};
+use usb_scripttext::TextFault;
 
 /// What is told of a text's scenario behind its run: what it wrote that isn't as expected, if there is any. It is known before anything is
 /// printed, so that want of memory leaves no line.

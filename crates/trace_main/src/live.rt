@@ -18,8 +18,9 @@ use std::thread::Threads;
 use trace_io::Fault;
 use trace_io::print::print;
 use trace_live::{Performance, perform};
-use trace_run::{TaskEnd, devices_of, lines_of};
+use trace_run::{TaskEnd, lines_of};
 use trace_scenario::Scenario;
+use usb_core::scripted_setup;
 
 /// Runs a scenario in threads, and prints what its callbacks were told, by handle and number; nothing where more than so many are
 /// called. The notes are then the lines of what handles hadn't finished.
@@ -41,7 +42,7 @@ fn live_scenario<T: Threads + Wait + Sync, W: Write>(
     ensures silent { IfErr result (λ fault. fault ≡ Rounds rounds → Keeps (W.contents out.old) (W.contents out.new)) }
 {
     let Scenario { setup, plan, rules } = scenario;
-    let devices = devices_of(alloc, setup)?;
+    let devices = scripted_setup(alloc, setup)?;
     let Performance { told, unfinished } = perform(
         rt,
         alloc,

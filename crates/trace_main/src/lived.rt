@@ -3,13 +3,14 @@
 ghost use Rattle.std.specs.Prelude.{◌≡◌, ◌==◌, IfOk, Some};
 ghost use Rattle.std.specs.List.{slice_split};
 ghost use Rattle.trace_scenario.specs.Line.{line_of_text};
-ghost use Rattle.trace_scenario.specs.TextResults.{AnswersAs};
+ghost use Rattle.usb_scripttext.specs.Results.{AnswersAs};
 ghost use Rattle.trace_scenario.specs.Runnable.{IsRunnable};
 ghost use Rattle.trace_main.specs.Lived.{first_unlived, is_unlived, lived_of};
 
 use std::alloc::{AllocError, Global};
-use trace_scenario::{Line, LineFault, Scenario, TextFault, read_scenario};
+use trace_scenario::{Line, Scenario, read_scenario};
 use usb_model::{Plan, Step};
+use usb_scripttext::{LineFault, TextFault};
 
 /// Whether what a line says is what no handle's thread does: the end of a transfer's time, or of a device.
 fn is_unlived(line: &Line) -> bool

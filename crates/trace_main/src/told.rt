@@ -16,7 +16,8 @@ use std::io::Write;
 use trace_explain::{Telling, explained_run};
 use trace_io::{Fault, write_bytes};
 use trace_run::TaskEnd;
-use trace_scenario::{Lined, Scenario, into_setups, read_lined};
+use trace_scenario::{Lined, Scenario, read_lined};
+use usb_device::into_setups;
 
 /// Writes a text, and all that is to be written with it.
 pub(crate) fn write_all<W: Write>(out: &mut W, text: &[u8]) -> Result<(), Fault>

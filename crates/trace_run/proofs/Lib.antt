@@ -4,7 +4,6 @@ mod Events
 mod Joined
 mod ReadParts
 pub mod Gathers
-mod MadeDevices
 mod Printed
 mod Lined
 mod Captured

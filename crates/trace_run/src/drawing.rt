@@ -10,9 +10,9 @@ ghost use Rattle.trace_run.specs.Printed.{IsNew};
 use std::alloc::{AllocError, Global};
 use std::vec::IntoIter;
 use trace_picture::Drawing;
-use trace_scenario::{NumberedLine, ScriptedDevice};
+use trace_scenario::NumberedLine;
 use usb_core::{Callback, Setup};
-use usb_device::Device;
+use usb_device::{Device, ScriptedDevice};
 use usb_model::{Plan, Reply, Step, Verdict};
 use usb_plans::{Performed, PlanRun, copy_of, next_callback};
 

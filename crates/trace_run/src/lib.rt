@@ -54,7 +54,7 @@ mod stepwise;
 mod tasks;
 
 pub use behind::left_behind;
-pub use devices::{devices_of, parts_of};
+pub use devices::parts_of;
 pub use ending::run_to_end;
 pub use left::{Left, Thing};
 pub use left_lines::lines_of;

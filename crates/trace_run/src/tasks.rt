@@ -14,7 +14,7 @@ ghost use Rattle.trace_run.specs.Stepwise.{stepwise_text};
 ghost use Rattle.trace_run.specs.Tasks.{AppendsAny, alone_text, ending_of, left_lines, run_text};
 
 use crate::capture::capture_plan;
-use crate::devices::{callbacks_of, devices_of, parts_of};
+use crate::devices::{callbacks_of, parts_of};
 use crate::drawing::{draw, tell_endpoints};
 use crate::ending::run_to_end;
 use crate::lines::{Reach, print_alone, print_plan};
@@ -24,7 +24,9 @@ use std::alloc::{AllocError, Global};
 use std::io::Write;
 use trace_io::{Fault, write_bytes};
 use trace_picture::{Drawing, Form};
-use trace_scenario::{DescribedDevice, NumberedLine, Scenario, ScriptedDevice};
+use trace_scenario::{DescribedDevice, NumberedLine, Scenario};
+use usb_core::scripted_setup;
+use usb_device::ScriptedDevice;
 use usb_model::{Name, Sequence};
 
 /// How a task ends that no fault ends.
@@ -192,7 +194,7 @@ pub fn draw_run<W: Write>(
     let Scenario { setup, plan, rules } = scenario;
     let mut drawing = Drawing::new(alloc, from, to);
     tell_endpoints(&mut drawing, setup.as_slice())?;
-    let devices = devices_of(alloc, setup)?;
+    let devices = scripted_setup(alloc, setup)?;
     let callbacks = callbacks_of(alloc, rules.as_slice())?;
     draw(
         alloc,

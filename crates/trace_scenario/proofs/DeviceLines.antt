@@ -6,9 +6,9 @@ use Rattle.std.proofs.lemmas.List.{at_drop_all, at_drop_more}
 use Rattle.trace_scenario.specs.declared.described.DescribedDevice.{DescribedDevice}
 use Rattle.trace_scenario.specs.declared.scenario.Scenario.{Scenario}
 use Rattle.trace_scenario.specs.DeviceLines.{described, described_by, device_lines_from, device_lines_past, has_more_devices}
-use Rattle.trace_scenario.specs.Line.{ascii_of}
+use Rattle.usb_scripttext.specs.Words.{ascii_of}
 use Rattle.trace_scenario.specs.Scenario.{with_text}
-use Rattle.trace_scenario.specs.Words.{words_in}
+use Rattle.usb_scripttext.specs.Words.{words_in}
 
 -- what the words of a line say, it says
 pub described_words : (at : ℕ) (text ascii : List ℕ) (words : List (List ℕ)) → ascii_of text ≡ Some ascii → words ≡ words_in ascii → described_by at words ≡ described at text

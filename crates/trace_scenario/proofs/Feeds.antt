@@ -14,7 +14,10 @@ use Rattle.trace_scenario.specs.declared.line.Line.TheVariants as line
 use Rattle.trace_scenario.specs.declared.scenario.Scenario.{Scenario}
 use Rattle.trace_scenario.specs.Feeds.{IsFedAlone, IsFedLater, LeavesAlone, Says, has_answers_of}
 use Rattle.trace_scenario.specs.Line.{line_of_text}
-use Rattle.trace_scenario.specs.Scenario.{device_with, empty_scripts, endpoint_ids, fits_behind, has_room, is_empty_script, is_free, new_device, nothing_said, says_nothing, scenario_from, scenario_of, script_at, taken_at, takes_script, with_device, with_line, with_text}
+use Rattle.usb_scripttext.specs.Devices.{device_with, empty_scripts, is_empty_script, is_free, new_device, takes_script}
+use Rattle.usb_device.specs.Scripts.{endpoint_ids}
+use Rattle.trace_scenario.specs.Scenario.{fits_behind, has_room, nothing_said, scenario_from, scenario_of, script_at, taken_at, with_device, with_line, with_text}
+use Rattle.usb_scripttext.specs.Words.{says_nothing}
 use Rattle.trace_scenario.proofs.Lines.{SaysFit, text_fits}
 use Rattle.trace_scenario.proofs.Runnables.{long_empty}
 

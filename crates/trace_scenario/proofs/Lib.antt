@@ -1,9 +1,5 @@
-pub mod Numbers
-pub mod Prefixes
 pub mod Unions
-pub mod Each
 pub mod Shapes
-pub mod Texts
 pub mod Scenarios
 pub mod GoodAndBad
 pub mod Places

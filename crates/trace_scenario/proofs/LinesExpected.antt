@@ -6,8 +6,8 @@ use Rattle.std.specs.Option.{option_and_then}
 use Rattle.std.proofs.lemmas.List.{at_drop_all, at_drop_more, get_or-map, length-map}
 use denote.Ref.{Bor}
 use Rattle.trace_scenario.specs.Expectations.{expected_by_words, expected_in_line}
-use Rattle.trace_scenario.specs.Line.{ascii_of}
-use Rattle.trace_scenario.specs.Words.{words_in, words_of}
+use Rattle.usb_scripttext.specs.Words.{ascii_of}
+use Rattle.usb_scripttext.specs.Words.{words_in, words_of}
 
 -- what the words of a line expect, it expects
 pub line_expects : (text ascii : List ℕ) (words : List (List ℕ)) → ascii_of text ≡ Some ascii → words ≡ words_in ascii → expected_by_words words ≡ expected_in_line text

@@ -3,15 +3,10 @@ use Rattle.std.proofs.Common.{◌≡◌, ℕ, zero, suc, ◌+◌, ◌<◌, true,
 use Rattle.std.proofs.lemmas.Bool.{le-leb, leb-true}
 use Rattle.usb_model.specs.declared.response.Response.{Response}
 use Rattle.usb_model.specs.Limits.{longest_script}
-use Rattle.trace_scenario.specs.Scenario.{has_room, is_free, script_at}
+use Rattle.trace_scenario.specs.Scenario.{has_room, script_at}
+use Rattle.usb_scripttext.specs.Devices.{is_free}
 
--- a place with room is one of the scripts
-pub free_place : (id : ℕ) (scripts : List (List Response)) → is_free id scripts ≡ true → id < length scripts
-free_place id [] free = cc
-free_place zero (script ∷ scripts) free = omega arith
-free_place (suc id) (script ∷ scripts) free = omega (arith, free_place id scripts free)
-
--- so is one with room for more
+-- a place with room for more is one of the scripts
 pub room_place : (id more : ℕ) (scripts : List (List Response)) → has_room id more scripts ≡ true → id < length scripts
 room_place id more [] room = cc
 room_place zero more (script ∷ scripts) room = omega arith

@@ -1,13 +1,10 @@
 -- The lines of a scenario, one after another.
-use Rattle.std.proofs.Common.{◌≡◌, ℕ, ◌+◌, ◌<◌, ◌≤◌, ◌^◌, ◌==◌, List, length, get_or, drop, Option, Some, None, Result, Ok, Err, sym, ◌∙◌, ap, subst, min, arith}
-use Rattle.std.specs.List.{slice_split}
-use Rattle.std.proofs.lemmas.List.Sums.{count_by-le-length}
-use Rattle.std.proofs.lemmas.List.Splits.{length-slice_split}
+use Rattle.std.proofs.Common.{◌≡◌, ℕ, ◌+◌, ◌<◌, ◌≤◌, List, length, get_or, drop, Option, Some, None, Result, Ok, Err, sym, ◌∙◌, ap, subst, arith}
 use Rattle.std.proofs.lemmas.List.{at_drop_more, at_drop_all}
-use Rattle.trace_scenario.specs.declared.fault.LineFault.{LineFault}
-use Rattle.trace_scenario.specs.declared.fault.LineFault.TheVariants.{Bad, Memory}
+use Rattle.usb_scripttext.specs.declared.fault.LineFault.{LineFault}
+use Rattle.usb_scripttext.specs.declared.fault.LineFault.TheVariants.{Bad, Memory}
 use Rattle.trace_scenario.specs.declared.scenario.Scenario.{Scenario}
-use Rattle.trace_scenario.specs.TextResults.{Becomes, AnswersAs, fault_at}
+use Rattle.usb_scripttext.specs.Results.{Becomes, AnswersAs, fault_at}
 use Rattle.trace_scenario.specs.Scenario.{scenario_from, taken_at, with_text}
 
 -- one line of those that are left
@@ -37,11 +34,3 @@ faulty r Memory said old new at further whole becomes is all = tt
 pub became : {A : Type 0} (r : Result A LineFault) (x : A) (said : Option Scenario) (old new : Scenario)
     → Becomes r said old new → r ≡ Ok x → said ≡ Some new
 became {A} r x said old new becomes is = subst (λ (y : Result A LineFault). Becomes y said old new) is becomes
-
--- the number of a line, counted in 64 bits
-pub counted : (text : List ℕ) (i at next : ℕ) → length text < 2 ^ 63 → i < length (slice_split (λ b. b == 10) text)
-    → at ≡ i → next ≡ min (at + 1) 18446744073709551615 → next ≡ i + 1
-counted text i at next small low is sum =
-    let long = length-slice_split (λ b. b == 10) text in
-    let less = count_by-le-length (λ b. b == 10) text in
-    omega arith

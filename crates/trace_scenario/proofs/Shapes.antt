@@ -1,7 +1,7 @@
 -- Words that are too few.
 use Rattle.std.proofs.Common.{◌≡◌, ℕ, ◌<◌, List, [], ◌∷◌, length, None, refl, arith}
 use denote.Ref.{Bor}
-use Rattle.trace_scenario.specs.Words.{words_of}
+use Rattle.usb_scripttext.specs.Words.{words_of}
 use Rattle.trace_scenario.specs.Line.{transfer_of}
 
 -- a transfer has two words at least

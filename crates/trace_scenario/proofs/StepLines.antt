@@ -12,9 +12,11 @@ use Rattle.trace_scenario.specs.declared.line.Line.{Line}
 use Rattle.trace_scenario.specs.declared.line.Line.TheVariants as line
 use Rattle.trace_scenario.specs.Line.{line_of_text}
 use Rattle.trace_scenario.specs.declared.scenario.Scenario.{Scenario}
-use Rattle.trace_scenario.specs.Scenario.{device_fed, device_with, new_device, nothing_said, says_nothing, scenario_from, scenario_of, taken_at, with_device, with_line, with_text}
+use Rattle.trace_scenario.specs.Scenario.{device_fed, nothing_said, scenario_from, scenario_of, taken_at, with_device, with_line, with_text}
+use Rattle.usb_scripttext.specs.Devices.{device_with, new_device}
+use Rattle.usb_scripttext.specs.Words.{says_nothing}
 use Rattle.trace_scenario.specs.StepLines.{has_grown, step_lines, step_lines_from, step_lines_past}
-use Rattle.trace_scenario.proofs.Lines.{if_and_then, if_map, if_tested}
+use Rattle.usb_scripttext.proofs.Fits.{if_and_then, if_map, if_tested}
 
 -- the plan stays as long, or has one piece more
 abbrev Grows : Scenario → Scenario → Type 0

@@ -4,10 +4,10 @@ use Rattle.std.specs.List.{slice_split}
 use Rattle.std.specs.Option.{option_and_then, option_map, option_to_list}
 use Rattle.trace_scenario.specs.declared.described.DescribedDevice.{DescribedDevice}
 use Rattle.trace_scenario.specs.declared.scenario.Scenario.{Scenario}
-use Rattle.trace_scenario.specs.Line.{ascii_of}
-use Rattle.trace_scenario.specs.Number.{bytes_of, device_of}
+use Rattle.usb_scripttext.specs.Words.{ascii_of}
+use Rattle.usb_scripttext.specs.Number.{bytes_of, device_of}
 use Rattle.trace_scenario.specs.Scenario.{nothing_said, with_text}
-use Rattle.trace_scenario.specs.Words.{words_in}
+use Rattle.usb_scripttext.specs.Words.{words_in}
 
 -- how many bytes a configuration has with all its descriptors, as it says itself (USB 2.0, 9.6.3, wTotalLength)
 abbrev pub total_length : List ℕ → ℕ

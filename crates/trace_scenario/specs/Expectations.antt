@@ -4,11 +4,11 @@ use Rattle.std.specs.List.{slice_split}
 use Rattle.std.specs.Option.{option_and_then, option_map}
 use Rattle.std.specs.Str.{bytes_eq}
 use Rattle.trace_scenario.specs.declared.expectations.ExpectedPackets.{ExpectedPackets}
-use Rattle.trace_scenario.specs.declared.expected_packet.ExpectedPacket.{ExpectedPacket}
-use Rattle.trace_scenario.specs.ExpectedPacket.{expected_packet_of}
-use Rattle.trace_scenario.specs.Line.{ascii_of}
-use Rattle.trace_scenario.specs.Number.{address_of, device_of}
-use Rattle.trace_scenario.specs.Words.{words_in}
+use Rattle.usb_scripttext.specs.declared.expected_packet.ExpectedPacket.{ExpectedPacket}
+use Rattle.usb_scripttext.specs.ExpectedPacket.{expected_packet_of}
+use Rattle.usb_scripttext.specs.Words.{ascii_of}
+use Rattle.usb_scripttext.specs.Number.{address_of, device_of}
+use Rattle.usb_scripttext.specs.Words.{words_in}
 
 -- what some answers expect: one for each that takes a packet
 abbrev pub expected_of_words : List (List ℕ) → List ExpectedPacket

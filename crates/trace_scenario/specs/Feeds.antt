@@ -7,7 +7,8 @@ use Rattle.usb_model.specs.Setup.{endpoint_id}
 use Rattle.trace_scenario.specs.declared.line.Line.{Line}
 use Rattle.trace_scenario.specs.declared.line.Line.TheVariants as line
 use Rattle.trace_scenario.specs.Line.{line_of_text}
-use Rattle.trace_scenario.specs.Scenario.{says_nothing, takes_script}
+use Rattle.usb_scripttext.specs.Words.{says_nothing}
+use Rattle.usb_scripttext.specs.Devices.{takes_script}
 
 -- the lines of a text
 abbrev pub lines_in : List ℕ → List (List ℕ)

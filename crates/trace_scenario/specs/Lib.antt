@@ -1,9 +1,6 @@
+pub mod Handle
 pub mod Names
-pub mod Number
 pub mod Option
-pub mod Prefix
-pub mod Words
-pub mod ExpectedPacket
 pub use Rattle.usb_model.specs.World.Plans
 pub mod Line
 pub mod LineResults

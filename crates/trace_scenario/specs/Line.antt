@@ -1,64 +1,27 @@
 -- Lines: what the words of each say.
-use Rattle.std.specs.Prelude.{ℕ, nat_le, nat_lt, Bool, ◌&&◌, List, [], ◌∷◌, codes, length, Option, Some, None, if◌then◌else◌}
+use Rattle.std.specs.Prelude.{ℕ, List, [], ◌∷◌, codes, Option, Some, None, if◌then◌else◌}
 use Rattle.std.specs.Option.{option_map, option_and_then}
 use Rattle.std.specs.Result.{result_ok}
-use Rattle.std.specs.List.{list_all}
 use Rattle.std.specs.Str.{bytes_eq}
-use Rattle.usb_model.specs.declared.response.Response.{Response}
-use Rattle.usb_model.specs.declared.response.Response.TheVariants as response
 use Rattle.usb_model.specs.declared.request.Kind.{Kind}
 use Rattle.usb_model.specs.declared.request.Kind.TheVariants.{Bulk, Interrupt}
 use Rattle.usb_model.specs.declared.request.Body.{Body}
 use Rattle.usb_model.specs.declared.request.Body.TheVariants.{In, Out}
-use Rattle.usb_model.specs.Limits.{largest_packet, longest_script}
-use Rattle.usb_model.specs.Setup.{is_in}
 use Rattle.usb_descriptors.specs.Grammar.{reading}
 use Rattle.trace_scenario.specs.declared.line.Line.{Line}
 use Rattle.trace_scenario.specs.declared.line.Line.TheVariants as line
 use Rattle.trace_scenario.specs.declared.option.Options.{Options}
-use Rattle.trace_scenario.specs.declared.script.EndpointAnswers.{EndpointAnswers}
+use Rattle.usb_scripttext.specs.declared.script.EndpointAnswers.{EndpointAnswers}
 use Rattle.trace_scenario.specs.declared.verb.Verb.{Verb}
 use Rattle.trace_scenario.specs.declared.verb.Verb.TheVariants.{Device, Script, Feed, Open, Close, Claim, Release, Reset, Clear, Submit, Cancel, Expire, Serve, Command, Deliver, Take, Return, Unplug}
 use Rattle.usb_model.specs.declared.step.Step.TheVariants as step
-use Rattle.trace_scenario.specs.ExpectedPacket.{expected_packet_of}
-use Rattle.trace_scenario.specs.Number.{handle_of, device_of, u32_of, address_of, bytes_of}
+use Rattle.trace_scenario.specs.Handle.{handle_of}
+use Rattle.usb_scripttext.specs.Number.{device_of, u32_of, address_of, bytes_of}
 use Rattle.trace_scenario.specs.Verb.{verb_of}
-use Rattle.trace_scenario.specs.Words.{words_in}
+use Rattle.usb_scripttext.specs.Words.{words_in}
 use Rattle.trace_scenario.specs.Step.{bare_of, open_of, close_of, claim_of, release_of, reset_of, clear_of, cancel_of, expire_of, serve_of, unplug_of, return_of}
-use Rattle.trace_scenario.specs.Prefix.{behind}
+use Rattle.usb_scripttext.specs.Prefix.{behind}
 use Rattle.trace_scenario.specs.Option.{options_of}
-
--- what each of some words says, where each says something
-unfoldable pub each_of : {A : Type 0} → (List ℕ → Option A) → List (List ℕ) → Option (List A)
-each_of f [] = Some []
-each_of f (word ∷ words) = option_and_then (λ x. option_map (λ xs. x ∷ xs) (each_of f words)) (f word)
-
--- a packet of at most so many bytes
-unfoldable pub packet_of : List ℕ → Option Response
-packet_of digits = option_and_then (λ bytes. if nat_le (length bytes) largest_packet then Some (response.Data bytes) else None) (bytes_of digits)
-
--- an answer of an endpoint: packets are for IN, and that one is taken for OUT, whatever is expected of it
-unfoldable pub answer_of : ℕ → List ℕ → Option Response
-answer_of ep word =
-    if bytes_eq word (codes "n") then Some response.Nak
-    else if bytes_eq word (codes "s") then Some response.Stall
-    else if bytes_eq word (codes "b") then Some response.Broken
-    else if is_in ep then option_and_then packet_of (behind (codes "d:") word)
-    else option_map (λ expected. response.Ack) (expected_packet_of word)
-
--- the answers of an endpoint: one at least
-unfoldable pub answers_of : ℕ → List (List ℕ) → Option (List Response)
-answers_of ep words = if nat_lt 0 (length words) && nat_le (length words) longest_script then each_of (answer_of ep) words else None
-
--- the answers of an endpoint of a device
-abbrev pub endpoint_answers : ℕ → ℕ → List Response → EndpointAnswers
-endpoint_answers dev ep answers = record { dev = dev; ep = ep; answers = answers }
-
--- those that words say: a device, an endpoint and the answers
-unfoldable pub endpoint_answers_of : List (List ℕ) → Option EndpointAnswers
-endpoint_answers_of (dev ∷ ep ∷ words) =
-    option_and_then (λ d. option_and_then (λ e. option_map (endpoint_answers d e) (answers_of e words)) (address_of ep)) (device_of dev)
-endpoint_answers_of _ = None
 
 -- a script: the answers that an endpoint begins with
 abbrev pub script_line : EndpointAnswers → Line
@@ -127,14 +90,6 @@ line_by Unplug words = unplug_of words
 abbrev pub line_of : List (List ℕ) → Option Line
 line_of [] = None
 line_of (word ∷ words) = option_and_then (λ verb. line_by verb words) (verb_of word)
-
--- whether a text is all ASCII
-abbrev pub is_ascii : List ℕ → Bool
-is_ascii text = list_all (λ b. nat_lt b 128) text
-
--- the text, where it is all ASCII
-abbrev pub ascii_of : List ℕ → Option (List ℕ)
-ascii_of text = if is_ascii text then Some text else None
 
 -- the line of a text of ASCII words between spaces
 abbrev pub line_of_text : List ℕ → Option Line

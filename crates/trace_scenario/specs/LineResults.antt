@@ -1,17 +1,11 @@
 -- What reading a line, or a part of it, may answer.
 use Rattle.std.specs.Prelude.{◌≡◌, ⊤, Option, Some, None, Result, Ok, Err}
 use Rattle.usb_model.specs.declared.plan.Plan.{Plan}
-use Rattle.trace_scenario.specs.declared.fault.LineFault.{LineFault}
-use Rattle.trace_scenario.specs.declared.fault.LineFault.TheVariants.{Bad, Memory}
+use Rattle.usb_scripttext.specs.declared.fault.LineFault.{LineFault}
+use Rattle.usb_scripttext.specs.declared.fault.LineFault.TheVariants.{Bad, Memory}
 use Rattle.trace_scenario.specs.declared.line.Line.{Line}
 use Rattle.trace_scenario.specs.declared.line.Line.TheVariants as line
 use Rattle.trace_scenario.specs.declared.submit.Submitted.{Submitted}
-
--- the answer is what the text says, or that it says nothing; want of memory says nothing of it
-abbrev pub ReadsAs : {T : Type 0} → Result T LineFault → Option T → Type 0
-ReadsAs (Ok x) said = said ≡ Some x
-ReadsAs (Err (Bad problem)) said = said ≡ None
-ReadsAs (Err Memory) said = ⊤
 
 -- the answer is the piece of the plan that a line says
 abbrev pub ReadsPiece : Result Plan LineFault → Option Line → Type 0

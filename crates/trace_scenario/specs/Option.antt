@@ -10,8 +10,8 @@ use Rattle.usb_model.specs.Requests.{flag_names}
 use Rattle.usb_model.specs.Text.{status_names}
 use Rattle.usb_model.specs.World.Plans.{once_only}
 use Rattle.trace_scenario.specs.declared.option.Options.{Options}
-use Rattle.trace_scenario.specs.Number.{u32_of, u64_of}
-use Rattle.trace_scenario.specs.Prefix.{behind}
+use Rattle.usb_scripttext.specs.Number.{u32_of, u64_of}
+use Rattle.usb_scripttext.specs.Prefix.{behind}
 use Rattle.trace_scenario.specs.Names.{union_of}
 
 -- what the first word says, where it is the option that begins so

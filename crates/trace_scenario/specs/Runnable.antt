@@ -3,19 +3,11 @@ use Rattle.std.specs.Prelude.{◌≡◌, ◌≢◌, ◌≤◌, Bool, true, false
 use Rattle.std.specs.List.{AllByRecursion}
 use Rattle.usb_model.specs.declared.plan.Plan.{Plan}
 use Rattle.usb_model.specs.declared.plan.Plan.TheVariants.{Do, Return}
-use Rattle.usb_model.specs.declared.setup.DeviceSetup.{DeviceSetup}
 use Rattle.usb_model.specs.declared.step.Step.{Step}
 use Rattle.usb_model.specs.declared.step.Step.TheVariants.{Answer}
 use Rattle.usb_model.specs.declared.verdict.Rule.TheVariants.{Free}
 use Rattle.usb_model.specs.World.Plans.{is_submission}
-use Rattle.usb_device.specs.Scripts.{are_scripts}
 use Rattle.trace_scenario.specs.declared.scenario.Scenario.{Scenario}
-use Rattle.trace_scenario.specs.Scenario.{endpoint_ids}
-
--- a device that can be made: a script for each id of an endpoint, none longer than scripts may be, of answers that the endpoint may give
-pub record CanBeMade (d : DeviceSetup) : Type 0 where
-  pub all : length d.scripts ≡ endpoint_ids
-  pub fit : are_scripts d.config d.scripts ≡ true
 
 -- whether a step is a callback's verdict
 abbrev pub is_answer : Step → Bool

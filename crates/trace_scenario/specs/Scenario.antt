@@ -1,11 +1,8 @@
 -- A scenario: what its lines say together.
-use Rattle.std.specs.Prelude.{ℕ, zero, suc, ◌+◌, ◌==◌, nat_le, Bool, true, false, ◌&&◌, List, [], ◌∷◌, ◌++◌, length, Option, Some, None, Result, Ok, Err, slice_get, slice_set, unwrap_or, if◌then◌else◌}
+use Rattle.std.specs.Prelude.{ℕ, ◌+◌, ◌==◌, nat_le, Bool, false, ◌&&◌, List, [], ◌∷◌, ◌++◌, length, Option, Some, None, Result, Ok, Err, slice_get, slice_set, unwrap_or, if◌then◌else◌}
 use Rattle.std.specs.Option.{option_map, option_and_then}
-use Rattle.std.specs.List.{list_any, slice_split}
+use Rattle.std.specs.List.{slice_split}
 use Rattle.usb_model.specs.declared.response.Response.{Response}
-use Rattle.usb_model.specs.declared.request.Kind.{Kind}
-use Rattle.usb_model.specs.declared.request.Kind.TheVariants.{Bulk, Interrupt}
-use Rattle.usb_model.specs.declared.setup.Configuration.{Configuration}
 use Rattle.usb_model.specs.declared.setup.DeviceSetup.{DeviceSetup}
 use Rattle.usb_model.specs.declared.plan.Plan.{Plan}
 use Rattle.usb_model.specs.declared.plan.Plan.TheVariants.{Do}
@@ -20,32 +17,6 @@ use Rattle.trace_scenario.specs.Line.{line_of_text}
 -- no line is read yet
 abbrev pub nothing_said : Scenario
 nothing_said = record { setup = []; plan = []; rules = [] }
-
--- whether transfers may be submitted to endpoints of this kind
-abbrev pub has_transfers : Kind → Bool
-has_transfers Bulk = true
-has_transfers Interrupt = true
-has_transfers _ = false
-
--- whether a configuration has a bulk or interrupt endpoint of this address
-abbrev pub takes_script : Configuration → ℕ → Bool
-takes_script config ep = list_any (λ info. (info.address == ep) && has_transfers info.kind) config.endpoints
-
--- whether a script is there, and empty
-abbrev pub is_empty_script : Option (List Response) → Bool
-is_empty_script None = false
-is_empty_script (Some script) = length script == 0
-
--- whether there is room for a script at an id: none so far
-abbrev pub is_free : ℕ → List (List Response) → Bool
-is_free id scripts = is_empty_script (slice_get scripts id)
-
--- this device with the script of one of its endpoints, where it has none so far
-abbrev pub device_with : ℕ → List Response → DeviceSetup → Option DeviceSetup
-device_with ep answers device =
-    if takes_script device.config ep && is_free (endpoint_id ep) device.scripts
-    then Some (record device { scripts = slice_set device.scripts (endpoint_id ep) answers })
-    else None
 
 -- the script at an id; none is empty
 abbrev pub script_at : ℕ → List (List Response) → List Response
@@ -67,19 +38,6 @@ device_fed ep answers device =
     then Some (record device { scripts = slice_set device.scripts (endpoint_id ep) (script_at (endpoint_id ep) device.scripts ++ answers) })
     else None
 
--- so many empty scripts
-unfoldable pub empty_scripts : ℕ → List (List Response)
-empty_scripts zero = []
-empty_scripts (suc n) = empty_scripts n ++ [] ∷ []
-
--- how many ids the endpoints of a device have
-abbrev pub endpoint_ids : ℕ
-endpoint_ids = 32
-
--- a device as its line says, with an empty script for each id of an endpoint
-abbrev pub new_device : Configuration → DeviceSetup
-new_device config = record { config = config; scripts = empty_scripts endpoint_ids }
-
 -- the scenario with one more piece of its plan
 abbrev pub with_piece : Plan → Scenario → Scenario
 with_piece piece s = record s { plan = s.plan ++ piece ∷ [] }
@@ -98,11 +56,6 @@ with_line s (line.Script dev ep answers) =
 with_line s (line.Feed dev ep answers) = with_device (device_fed ep answers) dev s
 with_line s (line.Submit h request rule) = Some (record (with_piece (Do (step.Submit h request)) s) { rules = s.rules ++ rule ∷ [] })
 with_line s (line.Piece piece) = Some (with_piece piece s)
-
--- whether a line says nothing: an empty one, or a comment
-abbrev pub says_nothing : List ℕ → Bool
-says_nothing [] = true
-says_nothing (b ∷ bs) = b == 35
 
 -- the scenario with one more line of text
 abbrev pub with_text : Scenario → List ℕ → Option Scenario

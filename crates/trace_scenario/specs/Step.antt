@@ -6,7 +6,8 @@ use Rattle.usb_model.specs.declared.step.Step.TheVariants as step
 use Rattle.usb_model.specs.declared.plan.Plan.TheVariants.{Do, Return}
 use Rattle.trace_scenario.specs.declared.line.Line.{Line}
 use Rattle.trace_scenario.specs.declared.line.Line.TheVariants.{Piece}
-use Rattle.trace_scenario.specs.Number.{handle_of, device_of, u8_of, u64_of, address_of}
+use Rattle.trace_scenario.specs.Handle.{handle_of}
+use Rattle.usb_scripttext.specs.Number.{device_of, u8_of, u64_of, address_of}
 
 -- the line of a step
 abbrev pub line_of_step : Step → Line

@@ -1,12 +1,10 @@
 //! The word of a bad line that its problem is about. No contract says which word that is.
 
-use crate::expected::Expected;
-use crate::line::ascii;
-use crate::prefix::behind;
-use crate::problem::Problem;
 use crate::slip::{Slip, has_zero_x};
 use crate::verb::Verb;
 use usb_model::limits::LARGEST_PACKET;
+use usb_scripttext::words::ascii;
+use usb_scripttext::{Expected, Problem, behind};
 
 /// How many words stand before the answers of a script.
 const BEFORE_ANSWERS: usize = 3;
@@ -17,6 +15,16 @@ const BEFORE_OPTIONS: usize = 5;
 /// How the options of a submission begin, in their order.
 const OPTIONS: [&str; 3] = ["flags=", "timeout=", "then="];
 
+/// The word that a slip is about, where it is about one.
+pub(crate) fn slipped(line: &[u8], slip: Slip) -> Option<&str> {
+    match slip {
+        Slip::Prefix => ascii(line)?
+            .split(' ')
+            .find(|word| has_zero_x(word.as_bytes())),
+        _ => None,
+    }
+}
+
 /// The word that the problem of a line is about, where it is about one.
 pub(crate) fn culprit<'a>(line: &'a [u8], problem: &Problem) -> Option<&'a str> {
     let line = ascii(line)?;
@@ -24,7 +32,6 @@ pub(crate) fn culprit<'a>(line: &'a [u8], problem: &Problem) -> Option<&'a str> 
         Problem::FirstWord => line.split(' ').next(),
         Problem::Word(expected) => unexpected(line, *expected),
         Problem::Packet => first_wrong_packet(line),
-        Problem::Slip(Slip::Prefix) => line.split(' ').find(|word| has_zero_x(word.as_bytes())),
         _ => None,
     }
 }
@@ -49,9 +56,14 @@ fn unexpected(line: &str, expected: Expected) -> Option<&str> {
     }
 }
 
+/// The verb that a line begins with.
+pub(crate) fn verb_in(line: &str) -> Option<Verb> {
+    Verb::read(line.split(' ').next()?)
+}
+
 /// The word that stands where the line's form has this one.
 fn named<'a>(line: &'a str, name: &str) -> Option<&'a str> {
-    let verb = Verb::read(line.split(' ').next()?)?;
+    let verb = verb_in(line)?;
     let place = verb.form().split(' ').position(|word| word == name)?;
     line.split(' ').nth(place)
 }

@@ -2,12 +2,12 @@
 
 ghost use Rattle.std.specs.Prelude.{◌≡◌, IfOk, slice_index, take};
 ghost use Rattle.trace_scenario.specs.DeviceLines.{described, described_by, total_length};
-ghost use Rattle.trace_scenario.specs.Words.{words_of};
+ghost use Rattle.usb_scripttext.specs.Words.{words_of};
 
-use crate::line::ascii;
-use crate::number::{bytes, device};
 use std::alloc::{AllocError, Global};
 use usb_model::{Bytes, DeviceNo};
+use usb_scripttext::number::{bytes, device};
+use usb_scripttext::words::ascii;
 
 /// A device of a text.
 #[derive(Drop)]

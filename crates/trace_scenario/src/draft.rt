@@ -1,32 +1,31 @@
 //! The scenario that the lines so far say.
 
-ghost use Rattle.std.specs.Prelude.{◌≡◌, ◌++◌, ◌==◌, [], IfOk, Some, is_ok, length, not, slice_set, true};
+ghost use Rattle.std.specs.Prelude.{◌≡◌, ◌++◌, ◌==◌, [], IfOk, Some, length, not, slice_set, true};
 ghost use Rattle.std.specs.Option.{option_and_then};
 ghost use Rattle.trace_scenario.specs.Counts.{counts_of, scripts_of, written_scripts};
 ghost use Rattle.trace_scenario.specs.Line.{feed_line, line_of};
 ghost use Rattle.trace_scenario.specs.LineResults.{submitted_line};
-ghost use Rattle.trace_scenario.specs.Scenario.{empty_scripts, has_room, is_free, says_nothing, script_at, takes_script};
-ghost use Rattle.trace_scenario.specs.TextResults.{Becomes, IsJudged};
-ghost use Rattle.trace_scenario.specs.Words.{words_of};
+ghost use Rattle.trace_scenario.specs.Scenario.{has_room, script_at};
+ghost use Rattle.usb_scripttext.specs.Results.{Becomes};
+ghost use Rattle.trace_scenario.specs.TextResults.{IsJudged};
+ghost use Rattle.usb_scripttext.specs.Words.{words_of};
 ghost use Rattle.usb_model.specs.Setup.{endpoint_id};
 
-use crate::endpoint_set::EndpointSet;
 use crate::findings::Counts;
-use crate::line::{cut, piece};
+use crate::line::piece;
 use crate::scenario::Scenario;
-use crate::script::{EndpointAnswers, endpoint_answers};
-use crate::scripted::ScriptedDevice;
 use crate::submit::{Submitted, submit};
-use crate::{Line, LineFault, Misplaced, Problem, Verb};
+use crate::{Line, Verb};
 use std::alloc::{AllocError, Global};
 use std::marker::Model;
 use std::mem;
 use usb_descriptors::Config;
+use usb_device::ScriptedDevice;
 use usb_model::limits::LONGEST_SCRIPT;
-use usb_model::{DeviceNo, EpAddr, Kind, Plan, Rule, Script, Sequence, Step};
-
-/// How many ids the endpoints of a device have: one for each number and direction.
-const ENDPOINT_IDS: u8 = 32;
+use usb_model::{DeviceNo, EpAddr, Plan, Rule, Script, Sequence, Step};
+use usb_scripttext::devices::{add_script, find_endpoint, new_device, put_script};
+use usb_scripttext::words::{cut, says_nothing};
+use usb_scripttext::{EndpointAnswers, LineFault, Misplaced, Problem, endpoint_answers};
 
 /// The scenario that the lines so far say.
 #[derive(Drop)]
@@ -45,7 +44,7 @@ impl Model for Draft {
 }
 
 impl Draft {
-    ghost use Rattle.trace_scenario.specs.Scenario.{nothing_said, with_line, with_text, with_piece, new_device};
+    ghost use Rattle.trace_scenario.specs.Scenario.{nothing_said, with_line, with_text, with_piece};
 
     /// Nothing is read yet.
     pub(crate) fn new(alloc: Global) -> Draft
@@ -104,7 +103,7 @@ impl Draft {
                 self.take(alloc, Line::of_verb(alloc, verb, rest)?)
             }
             Verb::Submit => self.add_submission(submit(alloc, rest)?),
-            Verb::Feed => self.add_answers(alloc, endpoint_answers(alloc, Verb::Feed, rest)?),
+            Verb::Feed => self.add_answers(alloc, endpoint_answers(alloc, rest)?),
             verb => self.add_piece(piece(verb, rest)?),
         }
     }
@@ -208,8 +207,7 @@ impl Draft {
             let turn = Misplaced::Turn(self.devices.len());
             return Err(LineFault::Bad(Problem::Place(turn)));
         }
-        let scripts = empty_scripts(alloc, ENDPOINT_IDS)?;
-        self.devices.push(ScriptedDevice { config, scripts })?;
+        self.devices.push(new_device(alloc, config)?)?;
         Ok(())
     }
 
@@ -226,16 +224,11 @@ impl Draft {
         if self.has_steps() {
             return Err(LineFault::Bad(Problem::Place(Misplaced::Late)));
         }
-        let (place, id) = places(dev, ep);
-        let device = self
-            .devices
-            .get(place)
-            .ok_or(Problem::Place(Misplaced::NoDevice))?;
-        find_endpoint(&device.config, ep)?;
-        if !is_free(device.scripts.as_slice(), id) {
-            return Err(LineFault::Bad(Problem::Place(Misplaced::SecondScript)));
+        let place = usize::from(dev.number());
+        if place >= self.devices.len() {
+            return Err(LineFault::Bad(Problem::Place(Misplaced::NoDevice)));
         }
-        put_script(alloc, &mut self.devices[place], id, answers);
+        add_script(alloc, &mut self.devices[place], ep, answers)?;
         Ok(())
     }
 
@@ -277,67 +270,12 @@ fn written_scripts(scripts: &[Script]) -> usize
     scripts.iter().filter(|script| !script.is_empty()).count()
 }
 
-/// Whether a line is empty or a comment.
-fn says_nothing(text: &[u8]) -> bool
-    ensures { result ≡ says_nothing text.now }
-{
-    matches!(text, [] | [b'#', ..])
-}
-
-/// So many empty scripts.
-fn empty_scripts(alloc: Global, count: u8) -> Result<Sequence<Script>, AllocError>
-    ensures { IfOk result (λ scripts. scripts ≡ empty_scripts count) }
-{
-    let mut scripts = Vec::new(alloc);
-    for _ in 0..count {
-        scripts.push(Script::new(alloc))?;
-    }
-    Ok(Sequence::from_vec(scripts))
-}
-
-/// Whether a configuration has a bulk or interrupt endpoint of this address.
-fn takes_script(config: &Config, ep: EpAddr) -> bool
-    ensures { result ≡ takes_script config.now ep }
-{
-    config.endpoints().iter().any(|info| info.address == ep
-        && matches!(info.kind, Kind::Bulk | Kind::Interrupt))
-}
-
 /// Where a device stands among the others, and an endpoint's script among those of its device.
 fn places(dev: DeviceNo, ep: EpAddr) -> (usize, usize)
     ensures device { result.0 ≡ dev }
     ensures script { result.1 ≡ endpoint_id ep }
 {
     (usize::from(dev.number()), usize::from(ep.id()))
-}
-
-/// Finds that a configuration has a bulk or interrupt endpoint of this address.
-fn find_endpoint(config: &Config, ep: EpAddr) -> Result<(), Problem>
-    ensures { is_ok result ≡ takes_script config.now ep }
-{
-    if !takes_script(config, ep) {
-        let there = EndpointSet::scripted(config);
-        return Err(Problem::Place(Misplaced::NoEndpoint(there)));
-    }
-    Ok(())
-}
-
-/// Whether there is room for a script at an id: none so far.
-fn is_free(scripts: &[Script], id: usize) -> bool
-    ensures { result ≡ is_free id scripts.now }
-{
-    matches!(scripts.get(id), Some(script) if script.is_empty())
-}
-
-/// Puts a script at an id where there is room.
-#[tactic(auto, using(crate::proofs::Places::free_place))]
-fn put_script(alloc: Global, device: &mut ScriptedDevice, id: usize, answers: Script)
-    requires { is_free id device.old.scripts ≡ true }
-    ensures { device.new ≡ record device.old { scripts = slice_set device.old.scripts id answers } }
-{
-    let mut scripts = mem::replace(&mut device.scripts, Sequence::new(alloc)).into_vec();
-    scripts[id] = answers;
-    device.scripts = Sequence::from_vec(scripts);
 }
 
 /// Whether so many more answers fit behind the script at an id.

@@ -1,16 +1,15 @@
 //! What a scenario expects of the packets that its devices take, line by line.
 
 ghost use Rattle.std.specs.Prelude.{◌≡◌, IfOk};
-ghost use Rattle.trace_scenario.specs.ExpectedPacket.{expected_packet_of};
+ghost use Rattle.usb_scripttext.specs.ExpectedPacket.{expected_packet_of};
 ghost use Rattle.trace_scenario.specs.Expectations.{expected_by_words, expected_in_line, expected_of, expected_of_words, says_answers};
-ghost use Rattle.trace_scenario.specs.Words.{words_of};
+ghost use Rattle.usb_scripttext.specs.Words.{words_of};
 
-use crate::LineFault;
-use crate::expected_packet::{ExpectedPacket, expected_packet};
-use crate::line::ascii;
-use crate::number::{address, device};
 use std::alloc::{AllocError, Global};
 use usb_model::{DeviceNo, EpAddr, Sequence};
+use usb_scripttext::number::{address, device};
+use usb_scripttext::words::ascii;
+use usb_scripttext::{ExpectedPacket, LineFault, read_expected_packet};
 
 /// What a line expects of the packets that an endpoint takes.
 #[derive(Debug, Drop)]
@@ -27,7 +26,7 @@ pub struct ExpectedPackets {
 fn expected_of_word(alloc: Global, word: &str) -> Result<Option<ExpectedPacket>, AllocError>
     ensures { IfOk result (λ packet. packet ≡ expected_packet_of word.now) }
 {
-    match expected_packet(alloc, word) {
+    match read_expected_packet(alloc, word) {
         Ok(packet) => Ok(Some(packet)),
         Err(LineFault::Bad(_)) => Ok(None),
         Err(LineFault::Memory) => Err(AllocError),

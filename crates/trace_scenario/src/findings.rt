@@ -4,13 +4,14 @@ ghost use Rattle.std.specs.Prelude.{◌≡◌, ◌++◌, ◌∷◌, [], IfOk, ma
 ghost use Rattle.trace_scenario.specs.Counts.{counts_of, counts_text, plural_end};
 ghost use Rattle.trace_scenario.specs.Findings.{bad_lines, good_lines};
 
-use crate::culprit::culprit;
+use crate::culprit::{culprit, slipped};
 use crate::draft::Draft;
+use crate::sentence::Sentence;
 use crate::shown::ShownWord;
-use crate::slip::Slip;
-use crate::{Problem, Verb};
+use crate::{Slip, Verb};
 use std::alloc::{AllocError, Global};
 use std::fmt;
+use usb_scripttext::Problem;
 
 /// A bad line.
 #[derive(Clone, Copy, PartialEq, Eq, Debug)]
@@ -19,21 +20,35 @@ pub struct Finding<'a> {
     pub line: u64,
     /// Its bytes, without the line feed.
     pub text: &'a [u8],
-    /// What is wrong with it.
+    /// What is wrong with it: the first thing that reading it met.
     pub problem: Problem,
+    /// The slip that this comes from, which is told in its place, if it comes from one.
+    pub slip: Option<Slip>,
 }
 
 impl<'a> Finding<'a> {
     /// The word that its problem is about, if it is about one.
     pub fn word(&self) -> Option<&'a str> {
-        culprit(self.text, &self.problem)
+        match self.slip {
+            Some(slip) => slipped(self.text, slip),
+            None => culprit(self.text, &self.problem),
+        }
     }
 
     /// The verb that its first word is almost, where that is none.
     fn verb_meant(&self) -> Option<Verb> {
-        match self.problem {
-            Problem::FirstWord => Verb::near(self.word()?),
+        match (self.slip, self.problem) {
+            (None, Problem::FirstWord) => Verb::near(self.word()?),
             _ => None,
+        }
+    }
+
+    /// Its problem, or the slip in its place.
+    fn put_problem<W: fmt::Write>(&self, f: &mut fmt::Formatter<W>) -> fmt::Result {
+        let (line, problem) = (self.text, self.problem);
+        match self.slip {
+            Some(slip) => f.write_str(slip.sentence()),
+            None => write!(f, "{}", Sentence { line, problem }),
         }
     }
 }
@@ -41,12 +56,11 @@ impl<'a> Finding<'a> {
 /// The word that the problem is about, what is wrong, and which verb may be meant.
 impl fmt::Display for Finding<'_> {
     fn fmt<W: fmt::Write>(&self, f: &mut fmt::Formatter<W>) -> fmt::Result {
-        let problem = self.problem;
         if let Some(word) = self.word() {
             let word = ShownWord(word);
             write!(f, "`{word}`: ")?;
         }
-        write!(f, "{problem}")?;
+        self.put_problem(f)?;
         if let Some(verb) = self.verb_meant() {
             let word = verb.word();
             write!(f, "; do you mean `{word}`?")?;
@@ -96,14 +110,6 @@ pub struct Findings<'a> {
     pub counts: Counts,
 }
 
-/// What is told of a line that has this problem: the slip that it is, if it is one.
-fn told(line: &[u8], problem: Problem) -> Problem {
-    match Slip::of(line, &problem) {
-        Some(slip) => Problem::Slip(slip),
-        None => problem,
-    }
-}
-
 /// Notes a bad line.
 fn note<'a>(
     bad: &mut Vec<Finding<'a>>,
@@ -113,11 +119,11 @@ fn note<'a>(
 ) -> Result<(), AllocError>
     ensures { IfOk result (λ _. map (λ finding. finding.line) bad.new.items ≡ map (λ finding. finding.line) bad.old.items ++ line ∷ []) }
 {
-    let problem = told(text, problem);
     let finding = Finding {
         line,
         text,
         problem,
+        slip: Slip::of(text, &problem),
     };
     match bad.push(finding) {
         Ok(()) => Ok(()),

@@ -1,5 +1,5 @@
-//! Scenarios as text, in the form that docs/FORMATS.md gives: what single words say (numbers, addresses, bytes, flags,
-//! options), what a line says (a device, a script, answers behind one, a submission or another piece of a plan), and the whole.
+//! Scenarios as text, in the form that docs/FORMATS.md gives: what a line says (a device, a script, answers behind one, a
+//! submission with its options, or another piece of a plan), and the whole. What words say of devices is `usb_scripttext`'s.
 //!
 //! The one promise: what `Line::from_text` gives is what the definition `line_of_text` makes of the text, what
 //! `read_scenario` gives is what `scenario_of` makes of it, and the lines that `check` finds bad are those that
@@ -7,22 +7,18 @@
 //!
 //! # Files
 //!
-//! - `number.rt`, `names.rt`, `prefix.rt`, `option.rt`: numbers, addresses and bytes; sets of names; beginnings of
-//!   words; the options of a submission
-//! - `expected.rt`: what a word had to be, in a sentence
+//! - `handle.rt`, `names.rt`, `option.rt`: handles, and the numbers of transfers; sets of names; the options of a submission
 //! - `verb.rt`, `line.rt`: first words; one line
-//! - `script.rt`, `submit.rt`, `step.rt`: the lines of scripts and of answers behind them, of submissions, of other pieces of a plan
-//! - `expected_packet.rt`, `expectations.rt`: what a word, and what the lines of a text, expect of the packets that devices take
-//! - `problem.rt`, `slip.rt`, `fault.rt`: what is wrong with a line, in a sentence; slips of editors and other notations; why it
-//!   isn't taken
-//! - `draft.rt`, `scenario.rt`, `scripted.rt`: what the lines so far say; a scenario; a device of it
+//! - `submit.rt`, `step.rt`: the lines of submissions, of other pieces of a plan
+//! - `expectations.rt`: what the lines of a text expect of the packets that devices take
+//! - `sentence.rt`, `slip.rt`: what is wrong with a line, in a sentence; slips of editors and other notations
+//! - `draft.rt`, `scenario.rt`: what the lines so far say; a scenario
 //! - `lined.rt`, specs/StepLines: a scenario with the line of each piece of its plan, and of each device
 //! - `described.rt`, specs/DeviceLines: a device's line, with the bytes of its configuration
 //! - `findings.rt`: the bad lines of a text, and how much the others say
-//! - `culprit.rt`, `shown.rt`, `near.rt`, `endpoint_set.rt`: the word that a problem is about; how it is shown; words that are almost
-//!   another; which endpoints a device has
-//! - `text_fault.rt`, `laws.rt`: why a text isn't read; a text has no bad line exactly where it is that of a
-//!   scenario, and each scenario can be run; answers that are fed are as if they had stood in the script
+//! - `culprit.rt`, `shown.rt`, `near.rt`: the word that a problem is about; how it is shown; words that are almost another
+//! - `laws.rt`: a text has no bad line exactly where it is that of a scenario, and each scenario can be run; answers that are fed
+//!   are as if they had stood in the script
 //! - specs/Feeds: texts in which answers stand in a line of their own, and in the script
 //! - specs/Runnable: what a program needs of a scenario to run it: devices that can be made, a plan without verdicts,
 //!   a rule for each submission
@@ -31,8 +27,8 @@
 //!
 //! # Contracts
 //!
-//! - decimal numbers, addresses, bytes, names between plus signs, options in their order: taken exactly where they
-//!   are what specs/Number, Names and Option say; a decimal has no sign and no leading zero
+//! - handles, names between plus signs, options in their order: taken exactly where they are what specs/Handle, Names and
+//!   Option say
 //! - `trace_scenario::Line::from_text`: the line of the text as specs/Line says, or that it is bad. Want of memory
 //!   leaves both open
 //! - `read_scenario`: the scenario that the lines say together (`scenario_of`), or the number of the first bad line;
@@ -42,7 +38,6 @@
 //! - `read_expected`: what the lines of a text expect of packets that are taken (`expected_of`), one for each line
 //!   `script` or `feed`, with an entry for each answer that takes a packet. Want of memory leaves it open. The scenario
 //!   of a text is the same, whatever is expected
-//! - `into_setups`, `ScriptedDevice::into_setup`: devices as the model has them: the same
 //! - `check`: the numbers of the bad lines, each line judged by what the good ones before it say, and the counts of
 //!   what the good ones say
 //! - `laws::bad_lines`: a text has no bad line exactly where it is that of a scenario; where it is none, the line
@@ -58,45 +53,30 @@
 mod culprit;
 mod described;
 mod draft;
-mod endpoint_set;
 mod expectations;
-mod expected;
-mod expected_packet;
-mod fault;
 mod findings;
+mod handle;
 pub mod laws;
 mod line;
 mod lined;
 mod names;
 mod near;
-pub mod number;
 mod option;
-mod prefix;
-mod problem;
 mod scenario;
-mod script;
-mod scripted;
+mod sentence;
 mod shown;
 mod slip;
 mod step;
 mod submit;
-mod text_fault;
 mod verb;
 
 pub use described::DescribedDevice;
-pub use endpoint_set::EndpointSet;
 pub use expectations::{ExpectedPackets, read_expected};
-pub use expected::Expected;
-pub use expected_packet::ExpectedPacket;
-pub use fault::LineFault;
 pub use findings::{Counts, Finding, Findings, check};
+pub use handle::handle;
 pub use line::Line;
 pub use lined::{Lined, NumberedLine, read_lined};
 pub use option::Options;
-pub use prefix::behind;
-pub use problem::{Misplaced, Problem};
 pub use scenario::{Scenario, read_scenario};
-pub use scripted::{ScriptedDevice, into_setups};
 pub use slip::Slip;
-pub use text_fault::TextFault;
 pub use verb::Verb;

@@ -1,28 +1,24 @@
 //! One line of a scenario.
 
-ghost use Rattle.std.specs.Prelude.{◌≡◌, IfOk, None, Some, true, if◌then◌else◌};
-ghost use Rattle.std.specs.Option.{option_copied, option_map};
-ghost use Rattle.std.specs.Result.{result_ok};
-ghost use Rattle.usb_descriptors.specs.Grammar.{reading};
-ghost use Rattle.trace_scenario.specs.Line.{is_ascii, ascii_of, device_line_of, line_by};
-ghost use Rattle.trace_scenario.specs.LineResults.{ReadsAs, ReadsPiece};
+ghost use Rattle.std.specs.Prelude.{◌≡◌, true};
+ghost use Rattle.trace_scenario.specs.Line.{device_line_of, line_by};
+ghost use Rattle.usb_scripttext.specs.Results.{ReadsAs};
+ghost use Rattle.trace_scenario.specs.LineResults.{ReadsPiece};
 ghost use Rattle.trace_scenario.specs.Verb.{says_piece};
-ghost use Rattle.trace_scenario.specs.Words.{words_in, words_of};
+ghost use Rattle.usb_scripttext.specs.Words.{words_of};
 
-use crate::Expected;
-use crate::fault::LineFault;
-use crate::number::{bytes, device};
-use crate::problem::Problem;
-use crate::script::{EndpointAnswers, endpoint_answers};
 use crate::step::{
     bare, callback, cancel, claim, clear, close, expire, open, release, reset, serve, unplug,
 };
 use crate::submit::{Submitted, submit};
 use crate::verb::Verb;
-use std::alloc::{AllocError, Global};
-use std::str;
-use usb_descriptors::{Config, read_config};
+use std::alloc::Global;
+use usb_descriptors::Config;
 use usb_model::{DeviceNo, EpAddr, Name, Plan, Request, Rule, Script, Step};
+use usb_scripttext::devices::configuration;
+use usb_scripttext::number::{bytes, device};
+use usb_scripttext::words::cut;
+use usb_scripttext::{EndpointAnswers, Expected, LineFault, Problem, endpoint_answers};
 
 /// What a line says.
 #[derive(Drop)]
@@ -86,11 +82,11 @@ impl Line {
         match verb {
             Verb::Device => device_line(alloc, words),
             Verb::Script => {
-                let EndpointAnswers { dev, ep, answers } = endpoint_answers(alloc, verb, words)?;
+                let EndpointAnswers { dev, ep, answers } = endpoint_answers(alloc, words)?;
                 Ok(Line::Script { dev, ep, answers })
             }
             Verb::Feed => {
-                let EndpointAnswers { dev, ep, answers } = endpoint_answers(alloc, verb, words)?;
+                let EndpointAnswers { dev, ep, answers } = endpoint_answers(alloc, words)?;
                 Ok(Line::Feed { dev, ep, answers })
             }
             Verb::Submit => {
@@ -117,48 +113,14 @@ pub(crate) fn piece(verb: Verb, words: &[&str]) -> Result<Plan, LineFault>
         Verb::Cancel => cancel(words),
         Verb::Expire => expire(words),
         Verb::Serve => serve(words),
-        Verb::Command => bare(verb, words, Step::Command),
-        Verb::Deliver => bare(verb, words, Step::Deliver),
-        Verb::Take => bare(verb, words, Step::Take),
+        Verb::Command => bare(words, Step::Command),
+        Verb::Deliver => bare(words, Step::Deliver),
+        Verb::Take => bare(words, Step::Take),
         Verb::Return => callback(words),
         Verb::Unplug => unplug(words),
         Verb::Device | Verb::Script | Verb::Feed | Verb::Submit => {
-            Err(LineFault::Bad(Problem::Form(verb)))
+            Err(LineFault::Bad(Problem::Form))
         }
-    }
-}
-
-/// Cuts a text into its words, where it is all ASCII: whether it is. They are kept where those of the text before stood, so
-/// that many lines share that memory.
-pub(crate) fn cut<'a>(text: &'a [u8], words: &mut Vec<&'a str>) -> Result<bool, AllocError>
-    ensures { IfOk result (λ cut. option_map words_in (ascii_of text.now) ≡ (if cut then Some (words_of words.new.items) else None)) }
-{
-    if !is_ascii(text) {
-        return Ok(false);
-    }
-    words.clear();
-    for word in text.split(|byte| *byte == b' ') {
-        // A part of what is all ASCII is a text; to ask `from_utf8` would be one more look at each byte.
-        words.push(unsafe { str::from_utf8_unchecked(word) })?;
-    }
-    Ok(true)
-}
-
-/// Whether bytes are all ASCII.
-fn is_ascii(bytes: &[u8]) -> bool
-    ensures { result ≡ is_ascii bytes.now }
-{
-    bytes.is_ascii()
-}
-
-/// The text of bytes that are all ASCII.
-pub(crate) fn ascii(bytes: &[u8]) -> Option<&str>
-    ensures { option_copied result ≡ ascii_of bytes.now }
-{
-    if is_ascii(bytes) {
-        str::from_utf8(bytes).ok()
-    } else {
-        None
     }
 }
 
@@ -168,17 +130,10 @@ fn device_line(alloc: Global, words: &[&str]) -> Result<Line, LineFault>
     ensures { ReadsAs result (device_line_of (words_of words.now)) }
 {
     let [number, descriptor] = words else {
-        return Err(LineFault::Bad(Problem::Form(Verb::Device)));
+        return Err(LineFault::Bad(Problem::Form));
     };
     let number = device(number)?;
     let descriptor = bytes(alloc, descriptor)?.ok_or(Expected::Bytes)?;
     let config = configuration(descriptor.as_slice())?;
     Ok(Line::Device { number, config })
-}
-
-/// What a configuration descriptor says.
-fn configuration(descriptor: &[u8]) -> Result<Config, LineFault>
-    ensures { ReadsAs result (result_ok (reading descriptor.now)) }
-{
-    Ok(read_config(descriptor).map_err(Problem::Descriptor)?)
 }

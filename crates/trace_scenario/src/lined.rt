@@ -3,7 +3,7 @@
 ghost use Rattle.std.specs.Prelude.{◌≡◌, ◌++◌, ◌∷◌, [], IfErr, IfOk, Ok, length, map, true, if◌then◌else◌};
 ghost use Rattle.std.specs.Option.{option_to_list};
 ghost use Rattle.trace_scenario.specs.DeviceLines.{described, device_lines};
-ghost use Rattle.trace_scenario.specs.TextResults.{IsFaultOf};
+ghost use Rattle.usb_scripttext.specs.Results.{IsFaultOf};
 ghost use Rattle.trace_scenario.specs.Runnable.{IsRunnable};
 ghost use Rattle.trace_scenario.specs.Scenario.{scenario_of};
 ghost use Rattle.trace_scenario.specs.StepLines.{has_grown, numbered, step_lines};
@@ -11,8 +11,8 @@ ghost use Rattle.trace_scenario.specs.StepLines.{has_grown, numbered, step_lines
 use crate::described::{DescribedDevice, described};
 use crate::draft::Draft;
 use crate::scenario::Scenario;
-use crate::text_fault::TextFault;
 use std::alloc::{AllocError, Global};
+use usb_scripttext::TextFault;
 
 /// A line of a text.
 #[derive(Clone, Copy)]

@@ -5,14 +5,13 @@ ghost use Rattle.std.specs.Option.{option_copied};
 ghost use Rattle.std.specs.Result.{result_ok};
 ghost use Rattle.usb_model.specs.World.Plans.{once_only};
 ghost use Rattle.trace_scenario.specs.Option.{option_value, option_rest, flags_said, timeout_said, rule_said, rule_of, options_of};
-ghost use Rattle.trace_scenario.specs.Words.{words_of};
+ghost use Rattle.usb_scripttext.specs.Words.{words_of};
 
-use crate::expected::Expected;
 use crate::names::union_of;
-use crate::number::{decimal_u32, decimal_u64};
-use crate::prefix::behind;
 use bitflags::Flags as _;
 use usb_model::{Flags, Rule, StatusSet};
+use usb_scripttext::number::{decimal_u32, decimal_u64};
+use usb_scripttext::{Expected, behind};
 
 /// What the options of a submission say.
 #[derive(Clone, Copy)]

@@ -2,14 +2,14 @@
 
 ghost use Rattle.std.specs.Prelude.{IfOk};
 ghost use Rattle.trace_scenario.specs.Scenario.{scenario_of};
-ghost use Rattle.trace_scenario.specs.TextResults.{AnswersAs};
+ghost use Rattle.usb_scripttext.specs.Results.{AnswersAs};
 ghost use Rattle.trace_scenario.specs.Runnable.{IsRunnable};
 
 use crate::lined::{Lined, read_text};
-use crate::scripted::ScriptedDevice;
-use crate::text_fault::TextFault;
 use std::alloc::Global;
+use usb_device::ScriptedDevice;
 use usb_model::{Plan, Rule, Sequence};
+use usb_scripttext::TextFault;
 
 /// A scenario that was read.
 #[derive(Drop)]

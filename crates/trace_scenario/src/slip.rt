@@ -1,8 +1,8 @@
 //! What editors and other notations leave in a line, told in place of what reading the line met. No contract says that a
 //! sentence fits its line.
 
-use crate::problem::Problem;
 use usb_descriptors::DescFault;
+use usb_scripttext::Problem;
 
 /// A slip that makes a line bad.
 #[derive(Clone, Copy, PartialEq, Eq, Debug)]

@@ -2,21 +2,20 @@
 
 ghost use Rattle.trace_scenario.specs.LineResults.{ReadsPiece};
 ghost use Rattle.trace_scenario.specs.Step.{bare_of, open_of, close_of, claim_of, release_of, reset_of, clear_of, cancel_of, expire_of, serve_of, unplug_of, return_of};
-ghost use Rattle.trace_scenario.specs.Words.{words_of};
+ghost use Rattle.usb_scripttext.specs.Words.{words_of};
 
-use crate::fault::LineFault;
-use crate::number::{address, device, handle, interface, number};
-use crate::problem::Problem;
-use crate::verb::Verb;
+use crate::handle::{handle, number};
 use usb_model::{Plan, Step};
+use usb_scripttext::number::{address, device, interface};
+use usb_scripttext::{LineFault, Problem};
 
 /// A step that names nothing.
 #[tactic(auto, unfolding(crate::specs::Step::bare_of))]
-pub(crate) fn bare(verb: Verb, words: &[&str], step: Step) -> Result<Plan, LineFault>
+pub(crate) fn bare(words: &[&str], step: Step) -> Result<Plan, LineFault>
     ensures { ReadsPiece result (bare_of step (words_of words.now)) }
 {
     let [] = words else {
-        return Err(LineFault::Bad(Problem::Form(verb)));
+        return Err(LineFault::Bad(Problem::Form));
     };
     Ok(Plan::Do(step))
 }
@@ -27,7 +26,7 @@ pub(crate) fn open(words: &[&str]) -> Result<Plan, LineFault>
     ensures { ReadsPiece result (open_of (words_of words.now)) }
 {
     let [h, dev] = words else {
-        return Err(LineFault::Bad(Problem::Form(Verb::Open)));
+        return Err(LineFault::Bad(Problem::Form));
     };
     Ok(Plan::Do(Step::Open {
         h: handle(h)?,
@@ -41,7 +40,7 @@ pub(crate) fn close(words: &[&str]) -> Result<Plan, LineFault>
     ensures { ReadsPiece result (close_of (words_of words.now)) }
 {
     let [h] = words else {
-        return Err(LineFault::Bad(Problem::Form(Verb::Close)));
+        return Err(LineFault::Bad(Problem::Form));
     };
     Ok(Plan::Do(Step::Close { h: handle(h)? }))
 }
@@ -52,7 +51,7 @@ pub(crate) fn claim(words: &[&str]) -> Result<Plan, LineFault>
     ensures { ReadsPiece result (claim_of (words_of words.now)) }
 {
     let [h, i] = words else {
-        return Err(LineFault::Bad(Problem::Form(Verb::Claim)));
+        return Err(LineFault::Bad(Problem::Form));
     };
     Ok(Plan::Do(Step::Claim {
         h: handle(h)?,
@@ -66,7 +65,7 @@ pub(crate) fn release(words: &[&str]) -> Result<Plan, LineFault>
     ensures { ReadsPiece result (release_of (words_of words.now)) }
 {
     let [h, i] = words else {
-        return Err(LineFault::Bad(Problem::Form(Verb::Release)));
+        return Err(LineFault::Bad(Problem::Form));
     };
     Ok(Plan::Do(Step::Release {
         h: handle(h)?,
@@ -80,7 +79,7 @@ pub(crate) fn reset(words: &[&str]) -> Result<Plan, LineFault>
     ensures { ReadsPiece result (reset_of (words_of words.now)) }
 {
     let [h] = words else {
-        return Err(LineFault::Bad(Problem::Form(Verb::Reset)));
+        return Err(LineFault::Bad(Problem::Form));
     };
     Ok(Plan::Do(Step::Reset { h: handle(h)? }))
 }
@@ -91,7 +90,7 @@ pub(crate) fn clear(words: &[&str]) -> Result<Plan, LineFault>
     ensures { ReadsPiece result (clear_of (words_of words.now)) }
 {
     let [h, ep] = words else {
-        return Err(LineFault::Bad(Problem::Form(Verb::Clear)));
+        return Err(LineFault::Bad(Problem::Form));
     };
     Ok(Plan::Do(Step::ClearHalt {
         h: handle(h)?,
@@ -105,7 +104,7 @@ pub(crate) fn cancel(words: &[&str]) -> Result<Plan, LineFault>
     ensures { ReadsPiece result (cancel_of (words_of words.now)) }
 {
     let [h, n] = words else {
-        return Err(LineFault::Bad(Problem::Form(Verb::Cancel)));
+        return Err(LineFault::Bad(Problem::Form));
     };
     Ok(Plan::Do(Step::Cancel {
         h: handle(h)?,
@@ -119,7 +118,7 @@ pub(crate) fn expire(words: &[&str]) -> Result<Plan, LineFault>
     ensures { ReadsPiece result (expire_of (words_of words.now)) }
 {
     let [h, n] = words else {
-        return Err(LineFault::Bad(Problem::Form(Verb::Expire)));
+        return Err(LineFault::Bad(Problem::Form));
     };
     Ok(Plan::Do(Step::Expire {
         h: handle(h)?,
@@ -133,7 +132,7 @@ pub(crate) fn serve(words: &[&str]) -> Result<Plan, LineFault>
     ensures { ReadsPiece result (serve_of (words_of words.now)) }
 {
     let [dev, ep] = words else {
-        return Err(LineFault::Bad(Problem::Form(Verb::Serve)));
+        return Err(LineFault::Bad(Problem::Form));
     };
     Ok(Plan::Do(Step::Serve {
         dev: device(dev)?,
@@ -147,7 +146,7 @@ pub(crate) fn unplug(words: &[&str]) -> Result<Plan, LineFault>
     ensures { ReadsPiece result (unplug_of (words_of words.now)) }
 {
     let [dev] = words else {
-        return Err(LineFault::Bad(Problem::Form(Verb::Unplug)));
+        return Err(LineFault::Bad(Problem::Form));
     };
     Ok(Plan::Do(Step::Unplug { dev: device(dev)? }))
 }
@@ -158,7 +157,7 @@ pub(crate) fn callback(words: &[&str]) -> Result<Plan, LineFault>
     ensures { ReadsPiece result (return_of (words_of words.now)) }
 {
     let [h, n] = words else {
-        return Err(LineFault::Bad(Problem::Form(Verb::Return)));
+        return Err(LineFault::Bad(Problem::Form));
     };
     Ok(Plan::Return {
         h: handle(h)?,

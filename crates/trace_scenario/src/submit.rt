@@ -2,16 +2,16 @@
 
 ghost use Rattle.std.specs.Prelude.{◌≡◌};
 ghost use Rattle.trace_scenario.specs.Line.{submit_of, transfer_of, submission, kind_of, body_of};
-ghost use Rattle.trace_scenario.specs.LineResults.{ReadsAs, ReadsSubmitted, submitted_line};
-ghost use Rattle.trace_scenario.specs.Words.{words_of};
+ghost use Rattle.usb_scripttext.specs.Results.{ReadsAs};
+ghost use Rattle.trace_scenario.specs.LineResults.{ReadsSubmitted, submitted_line};
+ghost use Rattle.usb_scripttext.specs.Words.{words_of};
 
-use crate::fault::LineFault;
-use crate::number::{address, bytes, decimal_u32, handle};
-use crate::problem::Problem;
-use crate::verb::Verb;
-use crate::{Expected, Options, behind};
+use crate::Options;
+use crate::handle::handle;
 use std::alloc::Global;
 use usb_model::{Body, EpAddr, Kind, Name, Request, Rule};
+use usb_scripttext::number::{address, bytes, decimal_u32};
+use usb_scripttext::{Expected, LineFault, Problem, behind};
 
 /// What a line that submits a transfer says.
 #[derive(Drop)]
@@ -30,7 +30,7 @@ pub(crate) fn submit(alloc: Global, words: &[&str]) -> Result<Submitted, LineFau
     ensures { ReadsSubmitted result (submit_of (words_of words.now)) }
 {
     let [h, ep, words @ ..] = words else {
-        return Err(LineFault::Bad(Problem::Form(Verb::Submit)));
+        return Err(LineFault::Bad(Problem::Form));
     };
     let (h, ep) = (handle(h)?, address(ep)?);
     transfer(alloc, h, ep, words)
@@ -42,7 +42,7 @@ fn transfer(alloc: Global, h: Name, ep: EpAddr, words: &[&str]) -> Result<Submit
     ensures { ReadsSubmitted result (transfer_of h ep (words_of words.now)) }
 {
     let [kind, body, options @ ..] = words else {
-        return Err(LineFault::Bad(Problem::Form(Verb::Submit)));
+        return Err(LineFault::Bad(Problem::Form));
     };
     let kind = kind_of(kind).ok_or(Expected::Kind)?;
     let body = body_of(alloc, body)?;

@@ -9,8 +9,8 @@ use Rattle.std.proofs.lemmas.Grind.{flat_map-append}
 use Rattle.std.proofs.lemmas.List.{length-append, length-map, take-append-drop}
 use Rattle.std.proofs.lemmas.List.Folds.{flat_map-map}
 use Rattle.std.proofs.lemmas.Str.{IsUtf8-from_ascii}
-use Rattle.trace_scenario.specs.Number.{u32_of}
-use Rattle.trace_scenario.proofs.Numbers.{spelt}
+use Rattle.usb_scripttext.specs.Number.{u32_of}
+use Rattle.usb_scripttext.proofs.Numbers.{spelt}
 use Rattle.trace_test.specs.Comparison.{texts_of}
 use Rattle.trace_test.specs.Macros.{call_words, part_filled, parts_in, star_of, within}
 

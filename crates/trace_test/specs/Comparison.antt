@@ -5,7 +5,7 @@ use Rattle.std.specs.List.{prefix_len, starts_with}
 use Rattle.std.specs.Option.{unwrap_or}
 use Rattle.std.specs.Str.{bytes_eq}
 use denote.Ref.{Bor}
-use Rattle.trace_scenario.specs.Prefix.{behind}
+use Rattle.usb_scripttext.specs.Prefix.{behind}
 use Rattle.trace_test.specs.Expected.{expected_left_of, expected_of}
 use Rattle.trace_test.specs.declared.difference.Difference.{Difference}
 

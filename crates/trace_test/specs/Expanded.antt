@@ -1,7 +1,7 @@
 -- The scenario that a test stands for.
 use Rattle.std.specs.Prelude.{◌≡◌, ◌⊎◌, ◌++◌, ◌+◌, ◌-◌, ◌==◌, ℕ, true, is_some, List, [], ◌∷◌, map, replicate, codes, Some, slice_index_or}
 use Rattle.std.specs.List.{flat_map, slice_split}
-use Rattle.trace_scenario.specs.Number.{u32_of}
+use Rattle.usb_scripttext.specs.Number.{u32_of}
 use Rattle.trace_test.specs.Expected.{expected_of}
 use Rattle.trace_test.specs.declared.settling.Settling.{Settling}
 use Rattle.trace_test.specs.declared.settling.Settling.TheVariants.{Command, Deliver, Take}

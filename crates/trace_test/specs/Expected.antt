@@ -1,6 +1,6 @@
 -- Lines that expect something.
 use Rattle.std.specs.Prelude.{ℕ, List, Option, codes}
-use Rattle.trace_scenario.specs.Prefix.{behind}
+use Rattle.usb_scripttext.specs.Prefix.{behind}
 
 -- what a line expects, if it does
 abbrev pub expected_of : List ℕ → Option (List ℕ)

@@ -3,9 +3,9 @@ use Rattle.std.specs.Prelude.{ℕ, true, false, nat_le, ◌+◌, ◌-◌, ◌*�
 use Rattle.std.specs.Bool.{then_some}
 use Rattle.std.specs.List.{count_by, find, flat_map, list_all, repeat, slice_split}
 use Rattle.std.specs.Str.{bytes_eq}
-use Rattle.trace_scenario.specs.Number.{u32_of}
-use Rattle.trace_scenario.specs.Prefix.{behind}
-use Rattle.trace_scenario.specs.Words.{words_in}
+use Rattle.usb_scripttext.specs.Number.{u32_of}
+use Rattle.usb_scripttext.specs.Prefix.{behind}
+use Rattle.usb_scripttext.specs.Words.{words_in}
 use Rattle.trace_test.specs.Comparison.{first_text}
 use Rattle.trace_test.specs.Expanded.{Expansion, lines_in, nothing_added, text_of}
 

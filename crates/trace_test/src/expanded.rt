@@ -10,7 +10,7 @@ use crate::settling::{Settling, steps_to_rest};
 use std::alloc::{AllocError, Global};
 use std::marker::Model;
 use std::str;
-use trace_scenario::number::decimal_u32;
+use usb_scripttext::number::decimal_u32;
 
 /// The text of a scenario, each line with the number of the line of a test that it comes from.
 #[derive(Drop)]

@@ -2,7 +2,7 @@
 
 ghost use Rattle.std.specs.Prelude.{◌≡◌};
 ghost use Rattle.std.specs.Option.{option_copied};
-ghost use Rattle.trace_scenario.specs.Prefix.{behind};
+ghost use Rattle.usb_scripttext.specs.Prefix.{behind};
 ghost use Rattle.trace_test.specs.Expected.{expected_left_of, expected_of};
 
 /// What stands behind the front of a text; None where it begins otherwise.

@@ -20,7 +20,8 @@ use std::alloc::{AllocError, Global};
 use trace_io::Fault;
 use trace_judged::{Unexpected, unexpected_by};
 use trace_run::{print_left, print_steps};
-use trace_scenario::{Lined, NumberedLine, Scenario, TextFault, read_lined, read_scenario};
+use trace_scenario::{Lined, NumberedLine, Scenario, read_lined, read_scenario};
+use usb_scripttext::TextFault;
 
 /// For each step's line of the scenario, the number of the line of the test that it comes from, and no text.
 fn origin_lines<'a>(

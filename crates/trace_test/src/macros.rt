@@ -2,8 +2,8 @@
 
 ghost use Rattle.std.specs.Prelude.{◌≡◌, ◌++◌, IfOk, drop, option_and_then, option_copied, option_map};
 ghost use Rattle.std.specs.Str.{bytes_eq};
-ghost use Rattle.trace_scenario.specs.Number.{u32_of};
-ghost use Rattle.trace_scenario.specs.Words.{words_in};
+ghost use Rattle.usb_scripttext.specs.Number.{u32_of};
+ghost use Rattle.usb_scripttext.specs.Words.{words_in};
 ghost use Rattle.trace_test.specs.Comparison.{texts_of};
 ghost use Rattle.trace_test.specs.Macros.{argument, behind_line, body_of, call_words, called, ended, filled, inside, is_word, line_count, meaning, name_begun, named, nothing_known, outside, part_filled, parts_in, star_of, times_of, times_within, unrolled, with_text, within};
 
@@ -13,7 +13,7 @@ use crate::unmet::first_text;
 use std::alloc::{AllocError, Global};
 use std::marker::Model;
 use std::str;
-use trace_scenario::number::decimal_u32;
+use usb_scripttext::number::decimal_u32;
 
 /// How many lines the body of a macro has at most.
 const MOST_LINES: usize = 65_536;

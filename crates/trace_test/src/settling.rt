@@ -5,10 +5,11 @@ ghost use Rattle.trace_test.specs.Expanded.{settling_line};
 
 use std::alloc::{AllocError, Global};
 use trace_run::{parts_of, run_to_end};
-use trace_scenario::{Scenario, TextFault, read_scenario};
+use trace_scenario::{Scenario, read_scenario};
 use usb_core::{Callback, Core};
 use usb_device::Device;
 use usb_model::Step;
+use usb_scripttext::TextFault;
 
 /// How many steps a line that settles stands for at most.
 const MOST_STEPS: u64 = 65_536;

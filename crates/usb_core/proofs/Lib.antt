@@ -21,4 +21,5 @@ mod Unfinished
 mod Payloads
 mod Unsized
 mod PlainSteps
+mod MadeDevices
 pub mod FedCores

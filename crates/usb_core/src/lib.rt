@@ -18,7 +18,7 @@
 //! The parts, and each step on them:
 //!
 //! - parts, setup, made: the parts: claims, controller, transfers in flight, callers, errands; devices, and the
-//!   parts made of them
+//!   parts made of them; scripted: a setup of devices that answer by scripts
 //! - packets, step_bursts, orders: a packet; packets in a row; the oldest order
 //! - events, reports, ends, settlement, sender: the oldest event; what it tells of a transfer; a transfer's
 //!   end; the end of an errand; whose order an event is of
@@ -70,6 +70,8 @@
 //! - `Setup::add`: a device joins the setup, with the scripts that it has, wherever it stands in them; refused, it
 //!   comes back as it is, with its configuration: InvalidParam just where there are four already, and NoMem else.
 //!   Premise: the device takes packets as long as its configuration says, which `TableDevice::new` ensures
+//! - `scripted_setup`: a setup of these devices, four at most, each of which can be made (`CanBeMade`): the same. Want of memory leaves
+//!   it open
 //! - `Setup::taken`: the packet of a number that a device took at an endpoint since it was made new
 //!
 //! The core: `ShowsWorld setup s w` is said of what it keeps. Its invariant: it shows some world. `TurnsWorld old step
@@ -163,6 +165,7 @@ mod reset;
 mod results;
 mod ruled;
 mod runs;
+mod scripted;
 mod sender;
 mod settlement;
 mod setup;
@@ -185,6 +188,7 @@ pub use pending::Pending;
 pub use results::Taken;
 pub use ruled::Ruled;
 pub use runs::{Stopped, run};
+pub use scripted::scripted_setup;
 pub use setup::{AddError, Setup};
 pub use step::{NoMemory, Stepped};
 pub use step_bursts::{Burst, Whole};

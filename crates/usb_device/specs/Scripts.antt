@@ -4,6 +4,7 @@ use Rattle.std.specs.Option.{unwrap_or, option_map_or}
 use Rattle.std.specs.List.{find, list_all, range_with_len}
 use Rattle.usb_model.specs.declared.response.Response.{Response}
 use Rattle.usb_model.specs.declared.setup.Configuration.{Configuration}
+use Rattle.usb_model.specs.declared.setup.DeviceSetup.{DeviceSetup}
 use Rattle.usb_model.specs.declared.setup.EndpointInfo.{EndpointInfo}
 use Rattle.usb_model.specs.Direction.{is_of_direction}
 use Rattle.usb_model.specs.Limits.{largest_packet, longest_script}
@@ -46,6 +47,15 @@ are_scripts_from config id (script ∷ scripts) = is_script (info_by config id) 
 -- scripts that the device of this configuration may have
 abbrev pub are_scripts : Configuration → List (List Response) → Bool
 are_scripts config scripts = are_scripts_from config 0 scripts
+
+-- how many ids the endpoints of a device have
+abbrev pub endpoint_ids : ℕ
+endpoint_ids = 32
+
+-- a device that can be made: a script for each id of an endpoint, none longer than scripts may be, of answers that the endpoint may give
+pub record CanBeMade (d : DeviceSetup) : Type 0 where
+  pub all : length d.scripts ≡ endpoint_ids
+  pub fit : are_scripts d.config d.scripts ≡ true
 
 -- an endpoint at the beginning of its script
 abbrev pub pipe_of : ℕ → List Response → Pipe

@@ -10,6 +10,7 @@
 //! - `scripted.rt`: `Scripted`: a device that tells how far it is in its scripts; `feed.rt`: `Feed`: a device whose scripts go on
 //!   while it runs
 //! - `table.rt`, `pipe.rt`: `TableDevice`: a place in each script, so that nothing is copied
+//! - `scripted_device.rt`: `ScriptedDevice`: a configuration and scripts, of which one is made
 //! - `taken.rt`, `scripts.rt`: packets that were taken, in one buffer an endpoint; scripts that a configuration may
 //!   have
 //! - `boxed.rt`: `BoxedDevice`: a device of any type, in a box that may cross threads
@@ -31,6 +32,8 @@
 //!   can't have it, or its script is full; else NoMem; refused, nothing changed. `TableDevice` does
 //! - `TableDevice::new`: the endpoints of the configuration with the scripts, at their beginning; InvalidParam just
 //!   where a script isn't fit, else NoMem; refused, the scripts come back as they were
+//! - `ScriptedDevice::into_setup`, `into_setups`: devices as the model has them: the same; `CanBeMade` (specs/Scripts) says of which a
+//!   `TableDevice` can be made
 //! - `BoxedDevice::new`: a box answers as the device in it
 //!
 //! It doesn't say: which transfer a transaction is of, when one is tried again, how long anything takes. A device's
@@ -43,6 +46,7 @@ mod device;
 mod feed;
 mod pipe;
 mod scripted;
+mod scripted_device;
 mod scripts;
 mod table;
 mod taken;
@@ -51,5 +55,6 @@ pub use boxed::BoxedDevice;
 pub use device::{Act, Device};
 pub use feed::Feed;
 pub use scripted::Scripted;
+pub use scripted_device::{ScriptedDevice, into_setups};
 pub use scripts::info_by;
 pub use table::{MakeDeviceError, TableDevice};

@@ -1,3 +1,4 @@
 pub mod Texts
 pub mod Lists
 pub mod Lines
+pub mod Made

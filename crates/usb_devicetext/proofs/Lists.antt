@@ -3,8 +3,7 @@ use Rattle.std.proofs.Common.{◌≡◌, ℕ, ◌+◌, ◌<◌, ◌∷◌, ◌++
 use Rattle.std.specs.List.{flat_map}
 use Rattle.std.proofs.lemmas.List.{take_more, flat_map_more, get_or-map, length-map, take-map}
 use denote.Ref.{Bor}
-use Rattle.trace_scenario.specs.Words.{words_of}
-use Rattle.usb_devicetext.specs.DeviceText.{kept_line}
+use Rattle.usb_scripttext.specs.Words.{words_of}
 use Rattle.usb_devicetext.specs.Text.{spaced, wide}
 
 -- one piece more
@@ -24,11 +23,6 @@ pub spaced_more : (words : List (Bor (List ℕ))) (i : ℕ) (d : Bor (List ℕ))
 spaced_more words i d old begun new low so_far space word =
     word ∙ (ap (λ xs. xs ++ wide (get_or words i d).now) (space ∙ ap (λ xs. xs ++ 32 ∷ 0 ∷ []) so_far)
     ∙ (append_assoc (spaced (take i (words_of words))) (32 ∷ 0 ∷ []) (wide (get_or words i d).now) ∙ sym (one_more_word (λ text. 32 ∷ 0 ∷ wide text) words i d low)))
-
--- a line more, as one of a scenario
-pub kept_more : (lines : List (Bor (List ℕ))) (i : ℕ) (d : Bor (List ℕ)) (old new : List ℕ) → i < length lines → old ≡ flat_map kept_line (take i (words_of lines)) → new ≡ old ++ kept_line (get_or lines i d).now
-    → new ≡ flat_map kept_line (take (i + 1) (words_of lines))
-kept_more lines i d old new low so_far line = line ∙ (ap (λ xs. xs ++ kept_line (get_or lines i d).now) so_far ∙ sym (one_more_word kept_line lines i d low))
 
 -- the texts of the first words are the first texts
 pub front_taken : (words : List (Bor (List ℕ))) (count : ℕ) → words_of (take count words) ≡ take count (words_of words)

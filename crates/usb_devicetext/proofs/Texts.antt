@@ -1,8 +1,8 @@
 -- Texts of lines.
 use Rattle.std.proofs.Common.{◌≡◌, ℕ, List, Some, sym, ◌∙◌, ap}
 use Rattle.std.specs.Option.{option_and_then}
-use Rattle.trace_scenario.specs.Words.{words_in}
-use Rattle.trace_scenario.specs.Line.{ascii_of}
+use Rattle.usb_scripttext.specs.Words.{words_in}
+use Rattle.usb_scripttext.specs.Words.{ascii_of}
 use Rattle.usb_devicetext.specs.Line.{line_of, line_of_text}
 
 -- what the words of a text say, it says

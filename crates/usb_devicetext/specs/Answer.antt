@@ -3,9 +3,9 @@ use Rattle.std.specs.Prelude.{ℕ, nat_le, nat_lt, Bool, false, ◌&&◌, List, 
 use Rattle.std.specs.Option.{option_and_then}
 use Rattle.std.specs.Str.{bytes_eq}
 use Rattle.usb_model.specs.Limits.{longest_script}
-use Rattle.trace_scenario.specs.Line.{each_of}
-use Rattle.trace_scenario.specs.Number.{bytes_of}
-use Rattle.trace_scenario.specs.Prefix.{behind}
+use Rattle.usb_scripttext.specs.Script.{each_of}
+use Rattle.usb_scripttext.specs.Number.{bytes_of}
+use Rattle.usb_scripttext.specs.Prefix.{behind}
 use Rattle.usb_devicetext.specs.declared.answer.ControlAnswer.{ControlAnswer}
 use Rattle.usb_devicetext.specs.declared.answer.ControlAnswer.TheVariants as answer
 

@@ -1,7 +1,7 @@
 -- The forms of lines: what stands behind each first word.
 use Rattle.std.specs.Prelude.{ℕ, ◌-◌, ◌==◌, nat_le, Bool, ◌||◌, List, [], ◌∷◌, codes, length, slice_get, Option, Some, None, if◌then◌else◌}
-use Rattle.std.specs.Option.{option_and_then, option_map, unwrap_or}
-use Rattle.trace_scenario.specs.Number.{address_of}
+use Rattle.std.specs.Option.{option_map, unwrap_or}
+use Rattle.usb_scripttext.specs.Number.{address_of}
 use Rattle.usb_model.specs.Setup.{is_in}
 use Rattle.usb_devicetext.specs.declared.topic.Topic.{Topic}
 use Rattle.usb_devicetext.specs.declared.topic.Topic.TheVariants as topic

@@ -1,5 +1,5 @@
 -- What is wrong with the words of a line, and when that is so.
-use Rattle.std.specs.Prelude.{◌≡◌, ℕ, ◌+◌, nat_le, nat_lt, Bool, true, false, ◌&&◌, ◌||◌, nat_eq, List, codes, ◌++◌, drop, length, Option, Some, None, Result, Ok, Err}
+use Rattle.std.specs.Prelude.{◌≡◌, ℕ, ◌+◌, nat_le, nat_lt, Bool, true, false, ◌&&◌, ◌||◌, nat_eq, List, codes, ◌++◌, drop, length, Option, Some, None, Err}
 use Rattle.std.specs.Fmt.{decimal}
 use Rattle.std.specs.List.{starts_with}
 use Rattle.std.specs.Option.{option_map, option_map_or}
@@ -8,7 +8,7 @@ use Rattle.usb_model.specs.Text.{hex_byte}
 use Rattle.usb_descriptors.specs.declared.fault.DescFault.{DescFault}
 use Rattle.usb_descriptors.specs.declared.fault.DescFault.TheVariants as desc
 use Rattle.usb_descriptors.specs.Grammar.{reading}
-use Rattle.trace_scenario.specs.Number.{bytes_of}
+use Rattle.usb_scripttext.specs.Number.{bytes_of}
 use Rattle.usb_devicetext.specs.declared.form_fault.FormFault.{FormFault}
 use Rattle.usb_devicetext.specs.declared.form_fault.FormFault.TheVariants as fault
 use Rattle.usb_devicetext.specs.declared.topic.Topic.{Topic}

@@ -1,11 +1,12 @@
 -- Lines: what the words of each say.
-use Rattle.std.specs.Prelude.{ℕ, List, [], ◌∷◌, Option, Some, None}
+use Rattle.std.specs.Prelude.{ℕ, List, [], ◌∷◌, Option, None}
 use Rattle.std.specs.Option.{option_map, option_and_then}
 use Rattle.std.specs.Result.{result_ok}
 use Rattle.usb_descriptors.specs.Grammar.{reading}
-use Rattle.trace_scenario.specs.Line.{ascii_of}
-use Rattle.trace_scenario.specs.Number.{bytes_of, device_of}
-use Rattle.trace_scenario.specs.Words.{words_in}
+use Rattle.usb_scripttext.specs.Words.{ascii_of}
+use Rattle.usb_scripttext.specs.Number.{bytes_of, device_of}
+use Rattle.usb_scripttext.specs.Script.{endpoint_answers_of}
+use Rattle.usb_scripttext.specs.Words.{words_in}
 use Rattle.usb_devicetext.specs.declared.line.DeskLine.{DeskLine}
 use Rattle.usb_devicetext.specs.declared.line.DeskLine.TheVariants as line
 use Rattle.usb_devicetext.specs.declared.statement.Statement.{Statement}
@@ -14,20 +15,11 @@ use Rattle.usb_devicetext.specs.declared.topic.Topic.TheVariants.{Device, Script
 use Rattle.usb_devicetext.specs.Statement.{anew_of, class_of, control_of, descriptor_of, driver_of, gate_of, hidden_of, ids_of, lasts_of, leaves_of, speed_line_of, string_line_of}
 use Rattle.usb_devicetext.specs.Topic.{topic_of}
 
--- the numbers of the interfaces that a configuration descriptor has
-unfoldable pub interfaces_of : List ℕ → Option (List ℕ)
-interfaces_of descriptor = option_map (λ config. config.interfaces) (result_ok (reading descriptor))
-
 -- a device: its number and its configuration descriptor
 unfoldable pub device_of_words : List (List ℕ) → Option DeskLine
 device_of_words (number ∷ descriptor ∷ []) =
-    option_and_then (λ d. option_and_then (λ bytes. option_map (λ is. line.Device d bytes is) (interfaces_of bytes)) (bytes_of descriptor)) (device_of number)
+    option_and_then (λ d. option_and_then (λ bytes. option_map (line.Device d bytes) (result_ok (reading bytes))) (bytes_of descriptor)) (device_of number)
 device_of_words _ = None
-
--- a script, whose words are read with the scenario
-unfoldable pub script_of_words : List (List ℕ) → Option DeskLine
-script_of_words [] = None
-script_of_words _ = Some line.Script
 
 -- what a line says of a device, by its first word and the words behind the device
 abbrev pub statement_by : Topic → List (List ℕ) → Option Statement
@@ -53,7 +45,7 @@ said_by topic [] = None
 -- the line of a first word and the words behind it
 abbrev pub line_by : Topic → List (List ℕ) → Option DeskLine
 line_by Device words = device_of_words words
-line_by Script words = script_of_words words
+line_by Script words = option_map line.Script (endpoint_answers_of words)
 line_by topic words = said_by topic words
 
 -- the line of some words

@@ -1,12 +1,12 @@
 -- Why a line of a good form can't stand where it does, beside some devices, and when that is so.
-use Rattle.std.specs.Prelude.{◌≡◌, ℕ, ◌==◌, nat_le, nat_lt, Bool, false, List, codes, ◌++◌, length, slice_get, Option, Some, None, if◌then◌else◌}
+use Rattle.std.specs.Prelude.{◌≡◌, ℕ, ◌==◌, nat_le, nat_lt, Bool, false, List, codes, ◌++◌, length, slice_get, Option, Some, if◌then◌else◌}
 use Rattle.std.specs.Fmt.{decimal}
 use Rattle.std.specs.List.{list_any}
 use Rattle.std.specs.Option.{option_and_then, option_map, option_map_or}
 use Rattle.usb_model.specs.declared.setup.DeviceSetup.{DeviceSetup}
 use Rattle.usb_model.specs.Setup.{endpoint_id}
-use Rattle.trace_scenario.specs.Number.{address_of, device_of, u8_of, u32_of}
-use Rattle.trace_scenario.specs.Scenario.{is_free, takes_script}
+use Rattle.usb_scripttext.specs.Number.{address_of, device_of, u8_of, u32_of}
+use Rattle.usb_scripttext.specs.Devices.{is_free, takes_script}
 use Rattle.usb_devicetext.specs.declared.place_fault.PlaceFault.{PlaceFault}
 use Rattle.usb_devicetext.specs.declared.place_fault.PlaceFault.TheVariants as fault
 use Rattle.usb_devicetext.specs.declared.topic.Topic.TheVariants as topic

@@ -1,13 +1,12 @@
 -- Why a line of a text isn't taken, and when that is so.
 use Rattle.std.specs.Prelude.{◌≡◌, ℕ, ◌-◌, ◌==◌, ⊤, Bool, true, false, ◌&&◌, List, [], ◌++◌, codes, length, slice_get, take, Option, Some, None, Result, Ok, Err}
 use Rattle.std.specs.Fmt.{decimal}
-use Rattle.std.specs.List.{flat_map, list_any}
+use Rattle.std.specs.List.{list_any}
 use Rattle.std.specs.Option.{option_and_then, option_map}
 use Rattle.std.specs.Result.{is_ok}
 use Rattle.usb_model.specs.declared.setup.DeviceSetup.{DeviceSetup}
-use Rattle.trace_scenario.specs.Line.{is_ascii}
-use Rattle.trace_scenario.specs.Scenario.{scenario_of}
-use Rattle.trace_scenario.specs.Words.{words_in}
+use Rattle.usb_scripttext.specs.Words.{is_ascii}
+use Rattle.usb_scripttext.specs.Words.{words_in}
 use Rattle.usb_devicetext.specs.declared.desk.DeviceText.{DeviceText}
 use Rattle.usb_devicetext.specs.declared.complaint.Complaint.{Complaint}
 use Rattle.usb_devicetext.specs.declared.line.DeskLine.{DeskLine}
@@ -15,7 +14,7 @@ use Rattle.usb_devicetext.specs.declared.line.DeskLine.TheVariants as line
 use Rattle.usb_devicetext.specs.declared.reason.Reason.{Reason}
 use Rattle.usb_devicetext.specs.declared.reason.Reason.TheVariants as reason
 use Rattle.usb_devicetext.specs.declared.sense.Saying.{Saying}
-use Rattle.usb_devicetext.specs.DeviceText.{desk_of, kept_line, setup_in, spelled_of}
+use Rattle.usb_devicetext.specs.DeviceText.{desk_of, spelled_in, spelled_of}
 use Rattle.usb_devicetext.specs.Form.{word_at}
 use Rattle.usb_devicetext.specs.FormFault.{FitsForm, form_fault_place, form_fault_text}
 use Rattle.usb_devicetext.specs.Line.{line_of_text}
@@ -26,8 +25,8 @@ use Rattle.usb_devicetext.specs.Sense.{is_same, subject_of}
 -- what a line says that may be said once
 abbrev pub saying_of : DeskLine → Option Saying
 saying_of (line.Says dev what) = option_map (λ about. record { dev = dev; subject = about }) (subject_of what)
-saying_of (line.Device number configuration interfaces) = None
-saying_of line.Script = None
+saying_of (line.Device number configuration config) = None
+saying_of (line.Script script) = None
 
 abbrev pub saying_in : List ℕ → Option Saying
 saying_in text = option_and_then saying_of (line_of_text text)
@@ -47,13 +46,13 @@ Fits (reason.Place why) text earlier devices = FitsPlace why devices (words_in t
 Fits (reason.Repeated at) text earlier devices = is_repeat (saying_in (word_at earlier (at - 1))) (saying_in text) ≡ true
 Fits reason.Refused text earlier devices = ⊤
 
--- the devices of some lines, as far as these are taken
-abbrev pub known : {E : Type 0} → Result (List DeviceSetup) E → List DeviceSetup
-known (Ok devices) = devices
+-- the devices of some lines; none where these aren't taken
+abbrev pub known : {E : Type 0} → Result DeviceText E → List DeviceSetup
+known (Ok desk) = desk.scripted
 known (Err e) = []
 
 abbrev pub devices_before : List (List ℕ) → List DeviceSetup
-devices_before texts = known (setup_in (scenario_of (flat_map kept_line texts)))
+devices_before texts = known (spelled_in texts)
 
 -- the devices beside which a line that isn't taken is judged: those of the whole text, where each line is taken behind those before it; else those of the lines before it
 abbrev pub seen : Result DeviceText ℕ → List (List ℕ) → List DeviceSetup

@@ -1,13 +1,13 @@
 -- Lines that can't mean anything: what a line of a good form says has to apply to its device, as all lines together describe it, and some things are said once.
-use Rattle.std.specs.Prelude.{ℕ, ◌==◌, nat_le, nat_lt, Bool, true, false, not, ◌&&◌, ◌||◌, List, [], ◌∷◌, ◌++◌, length, slice_get, Option, Some, None, Result, Ok, Err, if◌then◌else◌}
+use Rattle.std.specs.Prelude.{ℕ, ◌==◌, nat_le, nat_lt, Bool, true, false, not, ◌&&◌, ◌||◌, List, [], ◌∷◌, ◌++◌, length, slice_get, Option, Some, None, Result, if◌then◌else◌}
 use Rattle.std.specs.List.{list_all, list_any}
 use Rattle.std.specs.Option.{option_and_then, option_map, option_map_or}
 use Rattle.usb_model.specs.declared.request.Kind.{Kind}
 use Rattle.usb_model.specs.declared.request.Kind.TheVariants.{Bulk, Interrupt}
 use Rattle.usb_model.specs.declared.setup.DeviceSetup.{DeviceSetup}
-use Rattle.usb_model.specs.declared.setup.EndpointInfo.{EndpointInfo}
 use Rattle.usb_model.specs.Setup.{endpoint_id, is_in}
-use Rattle.trace_scenario.specs.Scenario.{says_nothing, takes_script}
+use Rattle.usb_scripttext.specs.Words.{says_nothing}
+use Rattle.usb_scripttext.specs.Devices.{takes_script}
 use Rattle.usb_devicetext.specs.declared.line.DeskLine.{DeskLine}
 use Rattle.usb_devicetext.specs.declared.line.DeskLine.TheVariants as line
 use Rattle.usb_devicetext.specs.declared.sense.Saying.{Saying}
@@ -20,7 +20,7 @@ use Rattle.usb_devicetext.specs.declared.statement.Gate.{Gate}
 use Rattle.usb_devicetext.specs.declared.statement.Statement.{Statement}
 use Rattle.usb_devicetext.specs.declared.statement.Statement.TheVariants as says
 use Rattle.usb_devicetext.specs.declared.word.Speed.{Speed}
-use Rattle.usb_devicetext.specs.declared.word.Speed.TheVariants.{Full, High, Low}
+use Rattle.usb_devicetext.specs.declared.word.Speed.TheVariants.{Full, Low}
 use Rattle.usb_devicetext.specs.Line.{line_of_text}
 use Rattle.usb_devicetext.specs.Lines.{from_lines, lines_in}
 
@@ -101,8 +101,8 @@ with_subject sayings dev (Some about) = if is_said sayings dev about then None e
 -- what was said once so far, with one more line, where that can mean something
 abbrev pub with_saying : List DeviceSetup → List Saying → DeskLine → Option (List Saying)
 with_saying devices sayings (line.Says dev what) = if applies_to (slice_get devices dev) what then with_subject sayings dev (subject_of what) else None
-with_saying devices sayings (line.Device number configuration interfaces) = Some sayings
-with_saying devices sayings line.Script = Some sayings
+with_saying devices sayings (line.Device number configuration config) = Some sayings
+with_saying devices sayings (line.Script script) = Some sayings
 
 -- and with one more line of text
 abbrev pub with_text : List DeviceSetup → List Saying → List ℕ → Option (List Saying)

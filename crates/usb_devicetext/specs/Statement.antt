@@ -3,7 +3,7 @@ use Rattle.std.specs.Prelude.{ℕ, List, [], ◌∷◌, Option, Some, None}
 use Rattle.std.specs.Option.{option_map, option_and_then}
 use Rattle.std.specs.Result.{result_ok}
 use Rattle.hex.specs.Hex.{decode_sized}
-use Rattle.trace_scenario.specs.Number.{address_of, u8_of, u32_of}
+use Rattle.usb_scripttext.specs.Number.{address_of, u8_of, u32_of}
 use Rattle.usb_devicetext.specs.declared.statement.Awaited.{Awaited}
 use Rattle.usb_devicetext.specs.declared.statement.Awaited.TheVariants as awaited
 use Rattle.usb_devicetext.specs.declared.statement.Pattern.{Pattern}

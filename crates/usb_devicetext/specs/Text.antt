@@ -2,8 +2,8 @@
 use Rattle.std.specs.Prelude.{ℕ, ◌+◌, ◌%◌, ◌==◌, nat_le, ◌&&◌, List, [], ◌∷◌, codes, drop, length, Option, Some, None, if◌then◌else◌}
 use Rattle.std.specs.List.{flat_map}
 use Rattle.std.specs.Option.{option_and_then}
-use Rattle.trace_scenario.specs.Number.{bytes_of}
-use Rattle.trace_scenario.specs.Prefix.{behind}
+use Rattle.usb_scripttext.specs.Number.{bytes_of}
+use Rattle.usb_scripttext.specs.Prefix.{behind}
 
 -- each byte of a text as a unit of UTF-16, the lower byte first
 abbrev pub wide : List ℕ → List ℕ

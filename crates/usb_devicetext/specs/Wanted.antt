@@ -1,9 +1,9 @@
 -- What a word of a line has to be.
-use Rattle.std.specs.Prelude.{ℕ, Bool, true, false, ◌||◌, List, codes, Option, Some, None, is_some}
+use Rattle.std.specs.Prelude.{ℕ, Bool, ◌||◌, List, codes, Option, is_some}
 use Rattle.std.specs.Option.{option_and_then}
 use Rattle.std.specs.Str.{bytes_eq}
-use Rattle.trace_scenario.specs.Number.{address_of, bytes_of, device_of, u8_of, u32_of}
-use Rattle.trace_scenario.specs.Prefix.{behind}
+use Rattle.usb_scripttext.specs.Number.{address_of, bytes_of, device_of, u8_of, u32_of}
+use Rattle.usb_scripttext.specs.Prefix.{behind}
 use Rattle.usb_devicetext.specs.declared.wanted.Wanted.{Wanted}
 use Rattle.usb_devicetext.specs.declared.wanted.Wanted.TheVariants as wanted
 use Rattle.usb_devicetext.specs.Statement.{whole_of}

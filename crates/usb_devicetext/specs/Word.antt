@@ -4,7 +4,7 @@ use Rattle.std.specs.Option.{option_map, option_and_then}
 use Rattle.std.specs.Result.{result_ok}
 use Rattle.std.specs.Str.{bytes_eq}
 use Rattle.hex.specs.Hex.{decode_sized}
-use Rattle.trace_scenario.specs.Number.{u8_of}
+use Rattle.usb_scripttext.specs.Number.{u8_of}
 use Rattle.usb_devicetext.specs.declared.word.Speed.{Speed}
 use Rattle.usb_devicetext.specs.declared.word.Speed.TheVariants.{Low, Full, High}
 

@@ -2,17 +2,17 @@
 
 ghost use Rattle.std.specs.Prelude.{◌≡◌, codes};
 ghost use Rattle.std.specs.Option.{option_and_then};
-ghost use Rattle.trace_scenario.specs.LineResults.{ReadsAs};
-ghost use Rattle.trace_scenario.specs.Line.{each_of};
-ghost use Rattle.trace_scenario.specs.Prefix.{behind};
-ghost use Rattle.trace_scenario.specs.Words.{words_of};
+ghost use Rattle.usb_scripttext.specs.Results.{ReadsAs};
+ghost use Rattle.usb_scripttext.specs.Script.{each_of};
+ghost use Rattle.usb_scripttext.specs.Prefix.{behind};
+ghost use Rattle.usb_scripttext.specs.Words.{words_of};
 ghost use Rattle.usb_devicetext.specs.Answer.{answer_of, answers_of, data_of, reads, writes};
 
 use std::alloc::Global;
-use trace_scenario::number::bytes;
-use trace_scenario::{Expected, LineFault, Problem, behind};
 use usb_model::limits::LONGEST_SCRIPT;
 use usb_model::{Bytes, Sequence};
+use usb_scripttext::number::bytes;
+use usb_scripttext::{Expected, LineFault, Problem, behind};
 
 /// The most bytes of a control transfer beside its setup packet, as Linux has it (MAX_CTRL_BUFFER_LENGTH).
 pub const MOST_DATA: usize = 4096;

@@ -1,18 +1,19 @@
 //! What is wrong with a text that isn't taken: the number of a line, and why.
 
 ghost use Rattle.std.specs.Prelude.{◌≡◌, IfOk, take};
-ghost use Rattle.std.specs.List.{flat_map};
-ghost use Rattle.trace_scenario.specs.Words.{words_of};
-ghost use Rattle.usb_devicetext.specs.DeviceText.{kept_line, spelled_of};
+ghost use Rattle.usb_scripttext.specs.Words.{words_of};
+ghost use Rattle.usb_devicetext.specs.DeviceText.{spelled_of};
 ghost use Rattle.usb_devicetext.specs.Form.{word_at};
 ghost use Rattle.usb_devicetext.specs.Lines.{lines_in};
 ghost use Rattle.usb_devicetext.specs.Reason.{Complains, Fits, IsWhy, devices_before, seen};
 
-use crate::desk::{push_line, read_desk, read_spelled};
+use crate::desk::{read_desk, read_spelled};
+use crate::draft::Draft;
 use crate::reason::{Reason, line_at};
 use std::alloc::{AllocError, Global};
-use trace_scenario::{ScriptedDevice, TextFault, read_scenario};
+use usb_device::ScriptedDevice;
 use usb_model::Sequence;
+use usb_scripttext::{LineFault, TextFault};
 
 /// What is wrong with a text that isn't taken.
 #[derive(Clone, Copy, Debug)]
@@ -72,27 +73,19 @@ fn front<'a, 'b>(lines: &'a [&'b [u8]], at: usize) -> &'a [&'b [u8]]
     }
 }
 
-/// Some lines as those of a scenario.
-fn scenario_in(alloc: Global, lines: &[&[u8]]) -> Result<Vec<u8>, AllocError>
-    ensures { IfOk result (λ bytes. bytes.items ≡ flat_map kept_line (words_of lines.now)) }
-{
-    let mut bytes = Vec::new(alloc);
-    for line in lines {
-        push_line(&mut bytes, line)?;
-    }
-    Ok(bytes)
-}
-
 /// The devices of some lines; none where these aren't taken.
 fn devices_before(alloc: Global, lines: &[&[u8]]) -> Result<Sequence<ScriptedDevice>, AllocError>
     ensures { IfOk result (λ devices. devices ≡ devices_before (words_of lines.now)) }
 {
-    let bytes = scenario_in(alloc, lines)?;
-    match read_scenario(alloc, bytes.as_slice()) {
-        Ok(scenario) => Ok(scenario.setup),
-        Err(TextFault::Line(_)) => Ok(Sequence::new(alloc)),
-        Err(TextFault::Memory) => Err(AllocError),
+    let mut draft = Draft::new(alloc);
+    for line in lines {
+        match draft.read(alloc, line) {
+            Ok(()) => {}
+            Err(LineFault::Bad(_)) => return Ok(Sequence::new(alloc)),
+            Err(LineFault::Memory) => return Err(AllocError),
+        }
     }
+    Ok(draft.into_desk().scripted)
 }
 
 /// The devices beside which a line is judged: those of the text, where each of its lines is taken behind those before it; else those

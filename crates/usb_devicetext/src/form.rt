@@ -1,14 +1,14 @@
 //! The forms of lines: what stands behind each first word.
 
 ghost use Rattle.std.specs.Prelude.{◌≡◌};
-ghost use Rattle.trace_scenario.specs.Words.{words_of};
+ghost use Rattle.usb_scripttext.specs.Words.{words_of};
 ghost use Rattle.usb_devicetext.specs.Form.{answer_in, form, form_text, has_count, of_endpoint, of_request, wanted_at, word_at};
 
 use crate::topic::Topic;
 use crate::wanted::Wanted;
 use crate::word::any_byte;
-use trace_scenario::number::address;
 use usb_model::EpAddr;
+use usb_scripttext::number::address;
 
 const DEVICE: &[Wanted] = &[Wanted::Device, Wanted::Bytes];
 

@@ -1,7 +1,7 @@
 //! What is wrong with the words of a line by themselves.
 
 ghost use Rattle.std.specs.Prelude.{◌≡◌, ◌<◌, IfOk, IfSome, None, Some, length};
-ghost use Rattle.trace_scenario.specs.Words.{words_of};
+ghost use Rattle.usb_scripttext.specs.Words.{words_of};
 ghost use Rattle.usb_devicetext.specs.FormFault.{FitsForm, descriptor_text, form_fault_place, form_fault_text, has_answer_count, has_prefix, is_longer, most_in, topic_in};
 ghost use Rattle.usb_devicetext.specs.Form.{wanted_at, word_at};
 ghost use Rattle.usb_devicetext.specs.Wanted.{is_wanted};
@@ -14,10 +14,10 @@ use crate::topic::Topic;
 use crate::wanted::{Wanted, data_in};
 use std::alloc::{AllocError, Global};
 use std::fmt;
-use trace_scenario::LineFault;
-use trace_scenario::number::bytes;
 use usb_descriptors::{DescFault, read_config};
 use usb_model::limits::{LARGEST_PACKET, LONGEST_SCRIPT};
+use usb_scripttext::LineFault;
+use usb_scripttext::number::bytes;
 
 /// What is wrong with the words of a line. Words are counted from 0.
 #[derive(Clone, Copy, PartialEq, Eq, Debug)]

@@ -1,13 +1,8 @@
 //! One line of a text.
 
-ghost use Rattle.std.specs.Prelude.{◌≡◌};
-ghost use Rattle.std.specs.Option.{option_copied, option_map};
-ghost use Rattle.std.specs.Result.{result_ok};
-ghost use Rattle.usb_descriptors.specs.Grammar.{reading};
-ghost use Rattle.trace_scenario.specs.Line.{is_ascii, ascii_of};
-ghost use Rattle.trace_scenario.specs.LineResults.{ReadsAs};
-ghost use Rattle.trace_scenario.specs.Words.{words_of};
-ghost use Rattle.usb_devicetext.specs.Line.{device_of_words, interfaces_of, line_by, line_of, line_of_text, said_by, script_of_words, statement_by};
+ghost use Rattle.usb_scripttext.specs.Results.{ReadsAs};
+ghost use Rattle.usb_scripttext.specs.Words.{words_of};
+ghost use Rattle.usb_devicetext.specs.Line.{device_of_words, line_by, line_of, line_of_text, said_by, statement_by};
 
 use crate::statement::{
     Statement, anew_line, class_line, control_line, descriptor_line, driver_line, gate_line,
@@ -15,23 +10,24 @@ use crate::statement::{
 };
 use crate::topic::Topic;
 use std::alloc::Global;
-use std::str;
-use trace_scenario::number::{bytes, device};
-use trace_scenario::{Expected, LineFault, Problem};
-use usb_descriptors::read_config;
+use usb_descriptors::Config;
 use usb_model::{Bytes, DeviceNo};
+use usb_scripttext::devices::configuration;
+use usb_scripttext::number::{bytes, device};
+use usb_scripttext::words::ascii;
+use usb_scripttext::{EndpointAnswers, Expected, LineFault, Problem, endpoint_answers};
 
 /// What a line says.
 #[derive(Drop)]
 pub enum DeskLine {
-    /// The device of this number has this configuration descriptor, with interfaces of these numbers.
+    /// The device of this number has this configuration descriptor, which says this.
     Device {
         number: DeviceNo,
         descriptor: Bytes,
-        interfaces: Bytes,
+        config: Config,
     },
-    /// A script, which is the scenario's.
-    Script,
+    /// The answers of an endpoint of a device that stands before it.
+    Script(EndpointAnswers),
     /// This of a device that stands before it.
     Says {
         dev: DeviceNo,
@@ -66,37 +62,10 @@ impl DeskLine {
     {
         match topic {
             Topic::Device => device_line(alloc, words),
-            Topic::Script => script_line(words),
+            Topic::Script => Ok(DeskLine::Script(endpoint_answers(alloc, words)?)),
             _ => said(alloc, topic, words),
         }
     }
-}
-
-/// Whether bytes are all ASCII.
-fn is_ascii(bytes: &[u8]) -> bool
-    ensures { result ≡ is_ascii bytes.now }
-{
-    bytes.iter().all(|byte| *byte < 128)
-}
-
-/// The text of bytes that are all ASCII.
-pub(crate) fn ascii(bytes: &[u8]) -> Option<&str>
-    ensures { option_copied result ≡ ascii_of bytes.now }
-{
-    if is_ascii(bytes) {
-        str::from_utf8(bytes).ok()
-    } else {
-        None
-    }
-}
-
-/// The numbers of the interfaces of a configuration.
-#[tactic(auto, unfolding(crate::specs::Line::interfaces_of))]
-fn interfaces(alloc: Global, descriptor: &[u8]) -> Result<Bytes, LineFault>
-    ensures { ReadsAs result (interfaces_of descriptor.now) }
-{
-    let config = read_config(descriptor).map_err(Problem::Descriptor)?;
-    Ok(Bytes::from_vec(Vec::from_slice(alloc, config.interfaces())?))
 }
 
 /// A device with its configuration descriptor.
@@ -109,23 +78,12 @@ fn device_line(alloc: Global, words: &[&str]) -> Result<DeskLine, LineFault>
     };
     let number = device(number)?;
     let descriptor = bytes(alloc, descriptor)?.ok_or(Expected::Bytes)?;
-    let interfaces = interfaces(alloc, descriptor.as_slice())?;
+    let config = configuration(descriptor.as_slice())?;
     Ok(DeskLine::Device {
         number,
         descriptor,
-        interfaces,
+        config,
     })
-}
-
-/// A script, whose words are read with the scenario.
-#[tactic(auto, unfolding(crate::specs::Line::script_of_words))]
-fn script_line(words: &[&str]) -> Result<DeskLine, LineFault>
-    ensures { ReadsAs result (script_of_words (words_of words.now)) }
-{
-    match words {
-        [] => Err(LineFault::Bad(Problem::FirstWord)),
-        _ => Ok(DeskLine::Script),
-    }
 }
 
 /// What a line of this first word says of the device that it names.

@@ -2,20 +2,21 @@
 
 ghost use Rattle.std.specs.Prelude.{◌≡◌, IfSome, Some};
 ghost use Rattle.std.specs.Option.{option_copied};
-ghost use Rattle.trace_scenario.specs.Words.{words_of};
+ghost use Rattle.usb_scripttext.specs.Words.{words_of};
 ghost use Rattle.usb_devicetext.specs.declared.topic.Topic.TheVariants as topic;
 ghost use Rattle.usb_devicetext.specs.FormFault.{topic_in};
 ghost use Rattle.usb_devicetext.specs.Sense.{answer_count};
 ghost use Rattle.usb_devicetext.specs.PlaceFault.{FitsPlace, at_endpoint, device_in, has_interface, has_room, names_one, place_fault_place, place_fault_text, speed_text};
 
 use crate::form::word_at;
-use crate::sense::{answer_count, has_speed, takes_packets, takes_script};
+use crate::sense::{answer_count, has_speed, takes_packets};
 use crate::topic::Topic;
 use crate::word::Speed;
 use std::fmt;
-use trace_scenario::ScriptedDevice;
-use trace_scenario::number::{address, decimal_u32, device, interface};
+use usb_device::ScriptedDevice;
 use usb_model::EpAddr;
+use usb_scripttext::devices::takes_script;
+use usb_scripttext::number::{address, decimal_u32, device, interface};
 
 /// Why a line of a good form can't stand where it does.
 #[derive(Clone, Copy, PartialEq, Eq, Debug)]

@@ -2,17 +2,19 @@
 
 ghost use Rattle.std.specs.Prelude.{◌≡◌, ◌-◌, ◌==◌, IfOk, IfSome, Some, length, slice_get, true};
 ghost use Rattle.std.specs.List.{list_any};
-ghost use Rattle.trace_scenario.specs.Words.{words_in, words_of};
+ghost use Rattle.usb_scripttext.specs.Words.{words_in, words_of};
 ghost use Rattle.usb_devicetext.specs.Form.{word_at};
 ghost use Rattle.usb_devicetext.specs.Reason.{Fits, is_repeat, reason_place, reason_text, saying_in, saying_of};
 
 use crate::form_fault::FormFault;
-use crate::line::{DeskLine, ascii};
+use crate::line::DeskLine;
 use crate::place_fault::PlaceFault;
 use crate::sense::{Saying, Subject};
 use std::alloc::{AllocError, Global};
 use std::fmt;
-use trace_scenario::{LineFault, ScriptedDevice};
+use usb_device::ScriptedDevice;
+use usb_scripttext::LineFault;
+use usb_scripttext::words::ascii;
 
 /// Why a line of a text isn't taken.
 #[derive(Clone, Copy, PartialEq, Eq, Debug)]
@@ -164,7 +166,7 @@ fn saying_of(line: &DeskLine) -> Option<Saying>
             Some(subject) => Some(Saying { dev: *dev, subject }),
             None => None,
         },
-        DeskLine::Device { .. } | DeskLine::Script => None,
+        DeskLine::Device { .. } | DeskLine::Script(_) => None,
     }
 }
 

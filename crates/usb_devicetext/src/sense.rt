@@ -5,19 +5,19 @@ ghost use Rattle.std.specs.Prelude.{◌≡◌, []};
 ghost use Rattle.usb_devicetext.specs.declared.line.DeskLine.TheVariants as DeskLine;
 ghost use Rattle.std.specs.Option.{option_copied};
 ghost use Rattle.std.specs.Prelude.{Some};
-ghost use Rattle.trace_scenario.specs.Scenario.{takes_script};
-ghost use Rattle.trace_scenario.specs.TextResults.{Becomes};
+ghost use Rattle.usb_scripttext.specs.Results.{Becomes};
 ghost use Rattle.usb_devicetext.specs.Sense.{answer_count, applies, applies_to, can_wait, has_answers, has_place, has_speed, is_said, is_same, is_within, subject_of, takes_packets, with_saying, with_subject, with_text};
 
-use crate::draft::says_nothing;
 use crate::line::DeskLine;
 use crate::statement::{Awaited, Departure, Gate, Statement};
 use crate::word::Speed;
 use std::alloc::Global;
 use std::marker::Model;
-use trace_scenario::{LineFault, Problem, ScriptedDevice};
-use usb_descriptors::Config;
+use usb_device::ScriptedDevice;
 use usb_model::{DeviceNo, EpAddr, Kind};
+use usb_scripttext::devices::takes_script;
+use usb_scripttext::words::says_nothing;
+use usb_scripttext::{LineFault, Problem};
 
 /// What may be said once of a device.
 #[derive(Clone, Copy, PartialEq, Eq, Debug)]
@@ -127,7 +127,7 @@ impl Sayings {
         ensures { Becomes result (with_saying devices.now self.old line) self.old self.new }
     {
         match line {
-            DeskLine::Device { .. } | DeskLine::Script => Ok(()),
+            DeskLine::Device { .. } | DeskLine::Script(_) => Ok(()),
             DeskLine::Says { dev, what } => self.say(devices, dev, &what),
         }
     }
@@ -169,14 +169,6 @@ impl Sayings {
             .iter()
             .any(|said| said.dev == dev && said.subject.is_same(subject))
     }
-}
-
-/// Whether a configuration has a bulk or interrupt endpoint of this address.
-pub(crate) fn takes_script(config: &Config, ep: EpAddr) -> bool
-    ensures { result ≡ takes_script config.now ep }
-{
-    config.endpoints().iter().any(|info| info.address == ep
-        && matches!(info.kind, Kind::Bulk | Kind::Interrupt))
 }
 
 /// How many answers a bulk or interrupt endpoint has; None where there is no such endpoint.

@@ -2,17 +2,17 @@
 
 ghost use Rattle.std.specs.Result.{result_ok};
 ghost use Rattle.std.specs.Prelude.{◌≡◌, Some};
-ghost use Rattle.trace_scenario.specs.LineResults.{ReadsAs};
-ghost use Rattle.trace_scenario.specs.Words.{words_of};
+ghost use Rattle.usb_scripttext.specs.Results.{ReadsAs};
+ghost use Rattle.usb_scripttext.specs.Words.{words_of};
 ghost use Rattle.usb_devicetext.specs.Statement.{anew_of, class_of, control_of, descriptor_of, driver_of, gate_of, gate_with, hidden_of, ids_of, lasts_of, leaves_of, pattern_of, release_of, speed_line_of, string_line_of, whole_of};
 
 use crate::answer::{ControlAnswer, answers};
 use crate::text::string_descriptor;
 use crate::word::{Speed, any_byte, any_word, byte, index, word};
 use std::alloc::Global;
-use trace_scenario::number::{address, decimal_u32, interface};
-use trace_scenario::{Expected, LineFault, Problem};
 use usb_model::{Bytes, EpAddr, Sequence};
+use usb_scripttext::number::{address, decimal_u32, interface};
+use usb_scripttext::{Expected, LineFault, Problem};
 
 /// The numbers of a device (USB 2.0, 9.6.1).
 #[derive(Clone, Copy)]

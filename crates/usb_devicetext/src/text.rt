@@ -1,14 +1,14 @@
 //! String descriptors (USB 2.0, 9.6.7).
 
 ghost use Rattle.std.specs.Prelude.{◌≡◌, ◌++◌, ◌∷◌, IfOk};
-ghost use Rattle.trace_scenario.specs.LineResults.{ReadsAs};
-ghost use Rattle.trace_scenario.specs.Words.{words_of};
+ghost use Rattle.usb_scripttext.specs.Results.{ReadsAs};
+ghost use Rattle.usb_scripttext.specs.Words.{words_of};
 ghost use Rattle.usb_devicetext.specs.Text.{spaced, string_of, text_of, units_of, wide};
 
 use std::alloc::{AllocError, Global};
-use trace_scenario::number::bytes;
-use trace_scenario::{Expected, LineFault, Problem, behind};
 use usb_model::Bytes;
+use usb_scripttext::number::bytes;
+use usb_scripttext::{Expected, LineFault, Problem, behind};
 
 /// The type of a string descriptor (USB 2.0, 9.4).
 const STRING: u8 = 3;

@@ -6,9 +6,9 @@ ghost use Rattle.usb_devicetext.specs.Wanted.{data_in, is_plain, is_read, is_wan
 use crate::statement::whole;
 use crate::word::{Speed, any_byte, any_word, index, word};
 use std::alloc::{AllocError, Global};
-use trace_scenario::behind;
-use trace_scenario::number::{address, bytes, decimal_u32, device, interface};
 use usb_model::Bytes;
+use usb_scripttext::behind;
+use usb_scripttext::number::{address, bytes, decimal_u32, device, interface};
 
 /// What a word of a line has to be.
 #[derive(Clone, Copy, PartialEq, Eq, Debug)]

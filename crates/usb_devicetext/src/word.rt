@@ -2,12 +2,12 @@
 
 ghost use Rattle.std.specs.Prelude.{◌≡◌, ◌+◌, ◌*◌};
 ghost use Rattle.std.specs.Result.{result_ok};
-ghost use Rattle.trace_scenario.specs.Number.{address_of};
+ghost use Rattle.usb_scripttext.specs.Number.{address_of};
 ghost use Rattle.usb_devicetext.specs.Word.{any_of, index_of, speed_of, word_of};
 
-use trace_scenario::Expected;
-use trace_scenario::number::{address, interface};
 use usb_model::EpAddr;
+use usb_scripttext::Expected;
+use usb_scripttext::number::{address, interface};
 
 /// The byte of two hexadecimal digits.
 pub(crate) fn byte(word: &str) -> Result<u8, Expected>

@@ -4,12 +4,12 @@ use crate::bytes::device::{Answers, setup};
 use crate::bytes::found::Found;
 use anyhow::{Result, anyhow};
 use std::alloc::{AllocError, Global};
-use trace_scenario::Line;
-use trace_scenario::number::{address, decimal_u32, handle};
+use trace_scenario::{Line, handle};
 use usb_core::Core;
 use usb_device::TableDevice;
 use usb_model::{Body, DeviceNo, EpAddr, Flags, Kind, Plan, Request, Sequence, Step, Verdict};
 use usb_rings::TransferRing;
+use usb_scripttext::number::{address, decimal_u32};
 
 /// A core, and its device.
 #[derive(Drop)]

@@ -3,7 +3,8 @@
 use super::model::is_line_of;
 use reference::{alone, run};
 use std::alloc::Global;
-use trace_scenario::{Scenario, into_setups, read_scenario};
+use trace_scenario::{Scenario, read_scenario};
+use usb_device::into_setups;
 use usb_model::{Entry, Name, Plan, Sequence, Setup, Step};
 
 /// Two handles with transfers at one device, which is unplugged. It has bulk endpoints of interface 0 and an interrupt

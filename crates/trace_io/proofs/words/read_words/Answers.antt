@@ -3,7 +3,7 @@ use Rattle.std.specs.Prelude.{option_map}
 use Rattle.clap.specs.Matches.{found_of}
 use Rattle.clap.specs.Simple.{app_of}
 use Rattle.clap.specs.Walk.{rows_of}
-use Rattle.trace_scenario.specs.Words.{words_of}
+use Rattle.usb_scripttext.specs.Words.{words_of}
 use Rattle.trace_io.specs.declared.words.Task.TheVariants.{Alone, Capture, Check, Describe, Device, Explain, Left, Live, Run, Test}
 use Rattle.trace_io.proofs.CommandLines.{asks_behind, asks_for, has_one, met, with_fault, without_fault}
 use Rattle.trace_io.proofs.words.read_words.Goals as goal

@@ -1,7 +1,7 @@
 -- The packet is among those of a line, or behind them.
 use Rattle.std.proofs.Common.{◌≡◌, ℕ, ◌+◌, ◌<◌, ◌≤◌, ◌-◌, List, length, drop, ap, sym, ◌∙◌, arith}
 use Rattle.std.specs.Prelude.{slice_get}
-use Rattle.trace_scenario.specs.declared.expected_packet.ExpectedPacket.{ExpectedPacket}
+use Rattle.usb_scripttext.specs.declared.expected_packet.ExpectedPacket.{ExpectedPacket}
 use Rattle.trace_judged.specs.Expected.{expected_at, expected_by}
 use Rattle.trace_judged.proofs.Found.{found_here, found_later, found_nowhere}
 use Rattle.trace_judged.proofs.expected.packet_at.Goals as goal

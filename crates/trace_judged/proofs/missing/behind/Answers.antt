@@ -1,6 +1,6 @@
 use Rattle.std.proofs.Common.{◌≡◌, ◌-◌, Bor, List, drop, length, take, arith, ap, sym, ◌∙◌}
 use Rattle.std.proofs.lemmas.List.{drop-map, length-drop, take_all}
-use Rattle.trace_scenario.specs.declared.expected_packet.ExpectedPacket.{ExpectedPacket}
+use Rattle.usb_scripttext.specs.declared.expected_packet.ExpectedPacket.{ExpectedPacket}
 use Rattle.trace_judged.specs.Expected.{packets_of}
 use Rattle.trace_judged.proofs.missing.behind.Goals as goal
 

@@ -1,7 +1,7 @@
 use Rattle.std.proofs.Common.{Bor, rules, tests, ◌∙◌}
 use Rattle.std.proofs.lemmas.Iterator.Search.{position_from_yields_List}
 use Rattle.std.proofs.lemmas.Iterator.{YieldsList-from_slice}
-use Rattle.trace_scenario.specs.declared.expected_packet.ExpectedPacket.{ExpectedPacket}
+use Rattle.usb_scripttext.specs.declared.expected_packet.ExpectedPacket.{ExpectedPacket}
 use Rattle.trace_judged.specs.Missing.{is_wanted}
 use Rattle.trace_judged.proofs.Places.{position_map}
 use Rattle.trace_judged.proofs.missing.first_wanted.Goals as goal

@@ -4,7 +4,7 @@ use Rattle.std.proofs.lemmas.List.{length_push}
 use Rattle.std.proofs.lemmas.Iterator.Splits.{YieldsList-from_slice_split}
 use Rattle.std.proofs.lemmas.Iterator.Consumers.{YieldsList-turn, YieldsList-end}
 use Rattle.trace_scenario.specs.Line.{line_of_text}
-use Rattle.trace_scenario.proofs.Scenarios.{counted}
+use Rattle.usb_scripttext.proofs.Counted.{counted}
 use Rattle.trace_main.specs.Lived.{first_unlived, is_unlived}
 use Rattle.trace_main.proofs.Unlived.{unlived-more, unlived-end}
 use Rattle.trace_main.proofs.lived.first_unlived.Goals as goal

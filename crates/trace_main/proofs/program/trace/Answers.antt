@@ -1,6 +1,6 @@
 -- What words and input come to.
 use Rattle.std.proofs.Common.{inl, refl}
-use Rattle.trace_scenario.specs.Words.{words_of}
+use Rattle.usb_scripttext.specs.Words.{words_of}
 use Rattle.trace_main.proofs.Reports.{bad_input, never_begun, quiet_unless_threads, rest_of, silent_unless, told_of, told_words, unexpected_found, unwritten, words_are_bad}
 use Rattle.trace_main.proofs.program.trace.Goals as goal
 

@@ -3,8 +3,8 @@ use Rattle.std.proofs.Common.{◌≡◌, Some, IfOk, sym, ap, ◌∙◌, subst, 
 use Rattle.std.specs.Option.{option_copied}
 use Rattle.std.proofs.lemmas.Iterator.Splits.{YieldsList-from_str_split}
 use Rattle.std.proofs.lemmas.Iterator.Consumers.{map_from_collect}
-use Rattle.trace_scenario.specs.Words.{words_of, words_in}
-use Rattle.trace_scenario.specs.Line.{ascii_of}
+use Rattle.usb_scripttext.specs.Words.{words_of, words_in}
+use Rattle.usb_scripttext.specs.Words.{ascii_of}
 use Rattle.trace_scenario.proofs.LinesExpected.{line_expects}
 use Rattle.trace_scenario.proofs.expectations.expected_in_line.Goals as goal
 

@@ -2,9 +2,9 @@
 use Rattle.std.proofs.Common.{◌+◌, ◌++◌, ℕ, List, Bor, drop, arith, sym, ap, ◌∙◌}
 use Rattle.std.specs.Prelude.{filter_map}
 use Rattle.std.proofs.lemmas.List.{length-map}
-use Rattle.trace_scenario.specs.ExpectedPacket.{expected_packet_of}
+use Rattle.usb_scripttext.specs.ExpectedPacket.{expected_packet_of}
 use Rattle.trace_scenario.specs.Expectations.{expected_of_words}
-use Rattle.trace_scenario.specs.Words.{words_of}
+use Rattle.usb_scripttext.specs.Words.{words_of}
 use Rattle.trace_scenario.proofs.LinesExpected.{no_more, none_more, some_more, text_at}
 use Rattle.trace_scenario.proofs.expectations.expected_of_words.Goals as goal
 use Rattle.trace_scenario.proofs.expectations.expected_of_words.Goals.{in-Some+in_ok-push, in_default}

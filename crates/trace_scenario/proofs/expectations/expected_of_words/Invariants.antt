@@ -1,9 +1,9 @@
 -- What is left is what the rest expects.
 use Rattle.std.proofs.Common.{◌≡◌, ◌++◌, drop}
 use Rattle.std.specs.Prelude.{filter_map}
-use Rattle.trace_scenario.specs.ExpectedPacket.{expected_packet_of}
+use Rattle.usb_scripttext.specs.ExpectedPacket.{expected_packet_of}
 use Rattle.trace_scenario.specs.Expectations.{expected_of_words}
-use Rattle.trace_scenario.specs.Words.{words_of}
+use Rattle.usb_scripttext.specs.Words.{words_of}
 use Rattle.trace_scenario.proofs.expectations.expected_of_words.Given as goal
 
 abbrev pub invariant-loop-word : goal.invariant-loop-word

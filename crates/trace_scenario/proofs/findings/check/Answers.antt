@@ -3,12 +3,12 @@ use Rattle.std.specs.List.{slice_split}
 use Rattle.std.proofs.lemmas.List.{append-nil, length_push}
 use Rattle.std.proofs.lemmas.Iterator.Splits.{YieldsList-from_slice_split}
 use Rattle.std.proofs.lemmas.Iterator.Consumers.{YieldsList-turn, YieldsList-end}
-use Rattle.trace_scenario.specs.declared.problem.Problem.{Problem}
+use Rattle.usb_scripttext.specs.declared.problem.Problem.{Problem}
 use Rattle.trace_scenario.specs.TextResults.{IsJudged}
 use Rattle.trace_scenario.specs.Scenario.{with_text}
 use Rattle.trace_scenario.specs.Counts.{counts_of}
 use Rattle.trace_scenario.specs.Findings.{bad_from, good_from, noted_number}
-use Rattle.trace_scenario.proofs.Scenarios.{counted}
+use Rattle.usb_scripttext.proofs.Counted.{counted}
 use Rattle.trace_scenario.proofs.GoodAndBad.{bad-end, good-end, judged_as, noted-more, taken-more}
 use Rattle.trace_scenario.proofs.findings.check.Goals as goal
 

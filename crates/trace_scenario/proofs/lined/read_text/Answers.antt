@@ -5,13 +5,14 @@ use Rattle.std.proofs.lemmas.List.{length-map, length_push}
 use Rattle.std.proofs.lemmas.Iterator.Splits.{YieldsList-from_slice_split}
 use Rattle.std.proofs.lemmas.Iterator.Consumers.{YieldsList-turn, YieldsList-end}
 use Rattle.trace_scenario.specs.declared.scenario.Scenario.{Scenario}
-use Rattle.trace_scenario.specs.TextResults.{AnswersAs, fault_at}
+use Rattle.usb_scripttext.specs.Results.{AnswersAs, fault_at}
 use Rattle.trace_scenario.specs.Scenario.{scenario_of, scenario_from, taken_at}
 use Rattle.trace_scenario.specs.DeviceLines.{device_lines, device_lines_from}
 use Rattle.trace_scenario.specs.StepLines.{numbered, step_lines, step_lines_from}
 use Rattle.trace_scenario.proofs.DeviceLines.{described_all, described_more}
 use Rattle.trace_scenario.proofs.Runnables.{scenarios_runnable}
-use Rattle.trace_scenario.proofs.Scenarios.{scenario-more, scenario-end, faulty, counted}
+use Rattle.trace_scenario.proofs.Scenarios.{scenario-more, scenario-end, faulty}
+use Rattle.usb_scripttext.proofs.Counted.{counted}
 use Rattle.trace_scenario.proofs.StepLines.{kept_all, kept_more, line_each}
 use Rattle.trace_scenario.proofs.lined.read_text.Goals as goal
 

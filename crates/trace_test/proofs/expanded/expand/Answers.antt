@@ -3,7 +3,7 @@ use Rattle.std.specs.List.{slice_split}
 use Rattle.std.proofs.lemmas.List.{length_push}
 use Rattle.std.proofs.lemmas.Iterator.Splits.{YieldsList-from_slice_split}
 use Rattle.std.proofs.lemmas.Iterator.Consumers.{YieldsList-turn, YieldsList-end}
-use Rattle.trace_scenario.proofs.Scenarios.{counted}
+use Rattle.usb_scripttext.proofs.Counted.{counted}
 use Rattle.trace_test.specs.Expanded.{AddsAll, AddsLine, lines_in}
 use Rattle.trace_test.proofs.Lines.{adds-more, adds-end}
 use Rattle.trace_test.proofs.expanded.expand.Goals as goal

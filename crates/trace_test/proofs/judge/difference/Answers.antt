@@ -2,7 +2,7 @@ use Rattle.std.proofs.Common.{◌≡◌, ◌+◌, ◌<◌, ◌^◌, ◌==◌, Ok
 use Rattle.std.proofs.lemmas.List.{length_push}
 use Rattle.std.proofs.lemmas.Iterator.Splits.{YieldsList-from_slice_split}
 use Rattle.std.proofs.lemmas.Iterator.Consumers.{YieldsList-turn, YieldsList-end}
-use Rattle.trace_scenario.proofs.Scenarios.{counted}
+use Rattle.usb_scripttext.proofs.Counted.{counted}
 use Rattle.trace_test.specs.Comparison.{compare_line, compared_as, difference_from, difference_past}
 use Rattle.trace_test.specs.Expanded.{lines_in}
 use Rattle.trace_test.proofs.Lines.{difference-more, difference-end}

@@ -1,8 +1,8 @@
 use Rattle.std.proofs.Common.{sym, ◌∙◌, ap, rules, Some}
-use Rattle.trace_scenario.specs.Line.{each_of}
+use Rattle.usb_scripttext.specs.Script.{each_of}
 use Rattle.usb_devicetext.specs.Answer.{answer_of}
-use Rattle.trace_scenario.specs.Words.{words_of}
-use Rattle.trace_scenario.proofs.Each.{over-start, over-more, over-none, faults, read_as}
+use Rattle.usb_scripttext.specs.Words.{words_of}
+use Rattle.usb_scripttext.proofs.Each.{over-start, over-more, over-none, faults, read_as}
 use Rattle.usb_devicetext.proofs.answer.each_answer.Goals as goal
 
 pub loop-word-init : goal.loop-word-init

@@ -1,6 +1,6 @@
 use Rattle.std.proofs.Common.{◌≡◌, take, Some}
-use Rattle.trace_scenario.specs.Words.{words_of}
-use Rattle.trace_scenario.specs.Line.{each_of}
+use Rattle.usb_scripttext.specs.Words.{words_of}
+use Rattle.usb_scripttext.specs.Script.{each_of}
 use Rattle.usb_devicetext.specs.Answer.{answer_of}
 use Rattle.usb_devicetext.proofs.answer.each_answer.Given as goal
 

@@ -1,10 +1,10 @@
 -- A line further each turn.
-use Rattle.std.proofs.Common.{◌≡◌, ◌+◌, ◌<◌, ◌^◌, ◌==◌, length, drop, List, Ok, Err, refl, sym, ap, ◌∙◌, subst, arith, rules, tests}
+use Rattle.std.proofs.Common.{◌≡◌, ◌+◌, ◌<◌, ◌^◌, ◌==◌, length, drop, List, Err, refl, sym, ap, ◌∙◌, subst, arith, rules, tests}
 use Rattle.std.proofs.lemmas.List.{length_push}
 use Rattle.std.proofs.lemmas.Iterator.Splits.{YieldsList-from_slice_split}
 use Rattle.std.proofs.lemmas.Iterator.Consumers.{YieldsList-turn, YieldsList-end}
-use Rattle.trace_scenario.specs.TextResults.{AnswersAs, fault_at}
-use Rattle.trace_scenario.proofs.Scenarios.{counted}
+use Rattle.usb_scripttext.specs.Results.{AnswersAs, fault_at}
+use Rattle.usb_scripttext.proofs.Counted.{counted}
 use Rattle.usb_devicetext.specs.declared.sense.Saying.{Saying}
 use Rattle.usb_devicetext.specs.Lines.{from_lines, lines_in, taken_at}
 use Rattle.usb_devicetext.specs.Sense.{sayings_of, with_text}
@@ -24,7 +24,7 @@ returns-in-Err c =
     let small : length c.args.text.now < 2 ^ 63 = omega arith in
     let at : c.saturating_add-place.result ≡ i + 1 = counted c.args.text.now i c.loop-line.place _ small t.0 c.loop-line.invariant.counted c.saturating_add-place.ensures in
     let fault : AnswersAs {T = List Saying} (Err (fault_at (i + 1) c.in-Err.fault)) (sayings_of c.args.devices.now c.args.text.now) = faulty c.read.result c.in-Err.fault _ _ _ (i + 1) _ _ c.read.ensures c.in-Err.is (c.loop-line.invariant.rest ∙ lines-more (with_text c.args.devices.now) (i + 1) c.loop-line.sayings texts i c.in-Some.line.now t) in
-    subst (λ fault. AnswersAs {T = List Saying} (Err fault) (sayings_of c.args.devices.now c.args.text.now)) (sym (c.fault_at.ensures ∙ ap (λ line. fault_at line c.in-Err.fault) at)) fault
+    subst (λ fault. AnswersAs {T = List Saying} (Err fault) (sayings_of c.args.devices.now c.args.text.now)) (sym (c.at.ensures ∙ ap (λ line. fault_at line c.in-Err.fault) at)) fault
 
 pub loop-line-preserved : goal.loop-line-preserved
 loop-line-preserved c =

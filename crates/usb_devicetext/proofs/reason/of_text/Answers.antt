@@ -2,7 +2,7 @@
 use Rattle.std.proofs.Common.{◌≡◌, IfOk, ap, ◌∙◌, subst, lit<}
 use Rattle.std.proofs.lemmas.Iterator.Splits.{YieldsList-from_str_split}
 use Rattle.std.proofs.lemmas.Iterator.Consumers.{map_from_collect}
-use Rattle.trace_scenario.specs.Words.{words_of, words_in}
+use Rattle.usb_scripttext.specs.Words.{words_of, words_in}
 use Rattle.usb_devicetext.proofs.reason.of_text.Goals as goal
 
 pub of_words-requires : goal.of_words-requires

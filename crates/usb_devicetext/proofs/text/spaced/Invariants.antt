@@ -1,6 +1,6 @@
 -- The words so far.
 use Rattle.std.proofs.Common.{◌≡◌, take}
-use Rattle.trace_scenario.specs.Words.{words_of}
+use Rattle.usb_scripttext.specs.Words.{words_of}
 use Rattle.usb_devicetext.specs.Text.{spaced}
 use Rattle.usb_devicetext.proofs.text.spaced.Given as goal
 

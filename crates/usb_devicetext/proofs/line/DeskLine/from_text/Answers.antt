@@ -3,9 +3,9 @@ use Rattle.std.specs.Option.{option_copied}
 use Rattle.std.specs.Result.{result_ok}
 use Rattle.std.proofs.lemmas.Iterator.Splits.{YieldsList-from_str_split}
 use Rattle.std.proofs.lemmas.Iterator.Consumers.{map_from_collect}
-use Rattle.trace_scenario.specs.LineResults.{ReadsAs}
-use Rattle.trace_scenario.specs.Words.{words_of, words_in}
-use Rattle.trace_scenario.specs.Line.{ascii_of}
+use Rattle.usb_scripttext.specs.Results.{ReadsAs}
+use Rattle.usb_scripttext.specs.Words.{words_of, words_in}
+use Rattle.usb_scripttext.specs.Words.{ascii_of}
 use Rattle.usb_devicetext.proofs.Texts.{by_words}
 use Rattle.usb_devicetext.proofs.line.DeskLine.from_text.Goals as goal
 

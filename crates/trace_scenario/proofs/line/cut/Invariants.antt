@@ -1,7 +1,0 @@
--- The words so far were taken.
-use Rattle.std.proofs.Common.{◌≡◌}
-use Rattle.trace_scenario.specs.Words.{words_of}
-use Rattle.trace_scenario.proofs.line.cut.Given as goal
-
-abbrev pub invariant-loop-word : goal.invariant-loop-word
-invariant-loop-word l = words_of l.words.items ≡ words_of l.yielded

@@ -1,5 +1,0 @@
-use Rattle.trace_scenario.proofs.Prefixes.{strips}
-use Rattle.trace_scenario.proofs.prefix.behind.Goals as goal
-
-pub returns : goal.returns
-returns c = strips c.args.begin.now c.args.word.now c.strip_prefix.result c.strip_prefix.ensures.cases

@@ -1,7 +1,0 @@
-use Rattle.std.proofs.Common.{◌≡◌, take, Some}
-use Rattle.trace_scenario.specs.Words.{words_of}
-use Rattle.trace_scenario.specs.Line.{each_of, answer_of}
-use Rattle.trace_scenario.proofs.script.each_answer.Given as goal
-
-abbrev pub invariant-loop-word : goal.invariant-loop-word
-invariant-loop-word l = each_of (answer_of l.ep) (take l.word-index (words_of l.words)) ≡ Some l.answers.items

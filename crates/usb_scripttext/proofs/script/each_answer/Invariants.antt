@@ -1,0 +1,7 @@
+use Rattle.std.proofs.Common.{◌≡◌, take, Some}
+use Rattle.usb_scripttext.specs.Words.{words_of}
+use Rattle.usb_scripttext.specs.Script.{each_of, answer_of}
+use Rattle.usb_scripttext.proofs.script.each_answer.Given as goal
+
+abbrev pub invariant-loop-word : goal.invariant-loop-word
+invariant-loop-word l = each_of (answer_of l.ep) (take l.word-index (words_of l.words)) ≡ Some l.answers.items

@@ -1,0 +1,9 @@
+pub use Rattle.usb_descriptors.specs.Grammar
+pub use Rattle.usb_model.specs.Setup
+pub mod Words
+pub mod Number
+pub mod Prefix
+pub mod ExpectedPacket
+pub mod Script
+pub mod Devices
+pub mod Results
