@@ -1,5 +1,5 @@
 -- The sentence of a reason.
-use Rattle.std.specs.Prelude.{ℕ, zero, suc, ◌&&◌, ◌||◌, nat_lt, Bool, true, false, List, [], ◌∷◌, ◌++◌, length, codes}
+use Rattle.std.specs.Prelude.{ℕ, zero, suc, ◌==◌, ◌&&◌, ◌||◌, nat_lt, Bool, true, false, List, [], ◌∷◌, ◌++◌, length, codes, if◌then◌else◌}
 use Rattle.std.specs.Fmt.{decimal}
 use Rattle.usb_model.specs.declared.endpoint.EndpointState.{EndpointState}
 use Rattle.usb_model.specs.declared.endpoint.EndpointState.TheVariants.{Running, Stopped, Halted}
@@ -84,9 +84,7 @@ missing_text h list (missing.Callback n) = transfer_text n ++ codes " isn't in i
 
 -- so many of something, where there are some; behind: whether it stands behind another
 abbrev pub part_text : (behind : Bool) → ℕ → List ℕ → List ℕ
-part_text behind zero what = []
-part_text true (suc n) what = codes ", " ++ (decimal (suc n) ++ what)
-part_text false (suc n) what = decimal (suc n) ++ what
+part_text behind n what = if n == 0 then [] else if behind then codes ", " ++ (decimal n ++ what) else decimal n ++ what
 
 -- what keeps the places of an endpoint, as 13 in progress, 2 withdrawn until move, 2 not taken
 abbrev pub places_text : Places → List ℕ

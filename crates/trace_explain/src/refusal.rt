@@ -1,7 +1,7 @@
 //! The sentence of a refusal.
 
 ghost use Rattle.std.specs.Prelude.{Some};
-ghost use Rattle.trace_explain.specs.Text.{missing_text, misfit_text, obstacle_text, places_text, refusal_text, unplug_text};
+ghost use Rattle.trace_explain.specs.Text.{missing_text, misfit_text, obstacle_text, part_text, places_text, refusal_text, unplug_text};
 
 use crate::endpoints::EndpointList;
 use crate::names::{DeviceName, HandleName, KindName, TransferName};
@@ -41,6 +41,14 @@ struct MissingSaid<'a> {
 struct ObstacleSaid {
     h: Name,
     obstacle: Obstacle,
+}
+
+/// So many of something, where there are some; `behind`: another part stands in front.
+#[derive(Clone, Copy)]
+struct PartSaid<'a> {
+    behind: bool,
+    count: usize,
+    what: &'a str,
 }
 
 /// What keeps the places of an endpoint.
@@ -96,20 +104,19 @@ impl<'a> fmt::Display for MissingSaid<'a> {
     }
 }
 
-/// So many of something behind a text, where there are some. `behind`: another stands in front.
-fn write_part<W: fmt::Write>(
-    f: &mut fmt::Formatter<W>,
-    behind: bool,
-    count: usize,
-    what: &str,
-) -> fmt::Result {
-    if count == 0 {
-        return Ok(());
+impl<'a> fmt::Display for PartSaid<'a> {
+    ghost output = { λ x. Some (part_text x.behind x.count x.what.now) };
+
+    fn fmt<W: fmt::Write>(&self, f: &mut fmt::Formatter<W>) -> fmt::Result {
+        let (count, what) = (self.count, self.what);
+        if count == 0 {
+            Ok(())
+        } else if self.behind {
+            write!(f, ", {count}{what}")
+        } else {
+            write!(f, "{count}{what}")
+        }
     }
-    if behind {
-        f.write_str(", ")?;
-    }
-    write!(f, "{count}{what}")
 }
 
 impl fmt::Display for PlacesSaid {
@@ -117,9 +124,22 @@ impl fmt::Display for PlacesSaid {
 
     fn fmt<W: fmt::Write>(&self, f: &mut fmt::Formatter<W>) -> fmt::Result {
         let by = self.0;
-        write_part(f, false, by.waiting, " in progress")?;
-        write_part(f, by.waiting > 0, by.blank, " withdrawn until move")?;
-        write_part(f, by.waiting > 0 || by.blank > 0, by.untaken, " not taken")
+        let waiting = PartSaid {
+            behind: false,
+            count: by.waiting,
+            what: " in progress",
+        };
+        let blank = PartSaid {
+            behind: 0 < by.waiting,
+            count: by.blank,
+            what: " withdrawn until move",
+        };
+        let untaken = PartSaid {
+            behind: 0 < by.waiting || 0 < by.blank,
+            count: by.untaken,
+            what: " not taken",
+        };
+        write!(f, "{waiting}{blank}{untaken}")
     }
 }
 

@@ -7,3 +7,7 @@ use Rattle.trace_explain.proofs.sentence.IdlenessDisplay.fmt.Goals as goal
 pub returns-in-Lost-clause-writes : goal.returns-in-Lost-clause-writes
 returns-in-Lost-clause-writes g c = λ plain ok.
     has_written_of_eq _ _ _ _ _ (ap idleness_text (sym c.in-Lost.is)) (c.write-in-Lost.ensures.writes plain ok)
+
+pub returns-in-NoEndpoint-clause-writes : goal.returns-in-NoEndpoint-clause-writes
+returns-in-NoEndpoint-clause-writes g c = λ plain ok.
+    has_written_of_eq _ _ _ _ _ (ap idleness_text (sym c.in-NoEndpoint.is)) (c.write-in-NoEndpoint.ensures.writes plain ok)
