@@ -1,5 +1,5 @@
 pub mod CommandLine
-pub use Rattle.usb_scripttext.specs.Number
+pub use Rattle.trace_scenario.specs.Handle
 pub use Rattle.usb_scripttext.specs.Words
 pub mod Faults
 pub mod Input

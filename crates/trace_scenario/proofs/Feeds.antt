@@ -19,7 +19,7 @@ use Rattle.usb_device.specs.Scripts.{endpoint_ids}
 use Rattle.trace_scenario.specs.Scenario.{fits_behind, has_room, nothing_said, scenario_from, scenario_of, script_at, taken_at, with_device, with_line, with_text}
 use Rattle.usb_scripttext.specs.Words.{says_nothing}
 use Rattle.trace_scenario.proofs.Lines.{SaysFit, text_fits}
-use Rattle.trace_scenario.proofs.Runnables.{long_empty}
+use Rattle.usb_scripttext.proofs.Made.{long_empty}
 
 -- an item that was found is found in a longer list too
 found_behind : {A : Type 0} (xs ys : List A) (i : ℕ) (x : A) → slice_get xs i ≡ Some x → slice_get (xs ++ ys) i ≡ Some x

@@ -18,7 +18,8 @@ use Rattle.usb_model.specs.declared.step.Step.TheVariants as step
 use Rattle.trace_scenario.specs.Handle.{handle_of}
 use Rattle.usb_scripttext.specs.Number.{device_of, u32_of, address_of, bytes_of}
 use Rattle.trace_scenario.specs.Verb.{verb_of}
-use Rattle.usb_scripttext.specs.Words.{words_in}
+use Rattle.usb_scripttext.specs.Script.{endpoint_answers_of}
+use Rattle.usb_scripttext.specs.Words.{ascii_of, words_in}
 use Rattle.trace_scenario.specs.Step.{bare_of, open_of, close_of, claim_of, release_of, reset_of, clear_of, cancel_of, expire_of, serve_of, unplug_of, return_of}
 use Rattle.usb_scripttext.specs.Prefix.{behind}
 use Rattle.trace_scenario.specs.Option.{options_of}

@@ -7,6 +7,7 @@ use Rattle.usb_model.specs.declared.step.Step.{Step}
 use Rattle.usb_model.specs.declared.step.Step.TheVariants.{Answer}
 use Rattle.usb_model.specs.declared.verdict.Rule.TheVariants.{Free}
 use Rattle.usb_model.specs.World.Plans.{is_submission}
+use Rattle.usb_device.specs.Scripts.{CanBeMade}
 use Rattle.trace_scenario.specs.declared.scenario.Scenario.{Scenario}
 
 -- whether a step is a callback's verdict

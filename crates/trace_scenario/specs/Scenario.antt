@@ -13,6 +13,8 @@ use Rattle.trace_scenario.specs.declared.line.Line.{Line}
 use Rattle.trace_scenario.specs.declared.line.Line.TheVariants as line
 use Rattle.trace_scenario.specs.declared.scenario.Scenario.{Scenario}
 use Rattle.trace_scenario.specs.Line.{line_of_text}
+use Rattle.usb_scripttext.specs.Devices.{device_with, new_device, takes_script}
+use Rattle.usb_scripttext.specs.Words.{says_nothing}
 
 -- no line is read yet
 abbrev pub nothing_said : Scenario

@@ -44,7 +44,8 @@ impl Model for Draft {
 }
 
 impl Draft {
-    ghost use Rattle.trace_scenario.specs.Scenario.{nothing_said, with_line, with_text, with_piece};
+    ghost use Rattle.trace_scenario.specs.Scenario.{nothing_said, with_device, with_line, with_text, with_piece};
+    ghost use Rattle.usb_scripttext.specs.Devices.{device_with};
 
     /// Nothing is read yet.
     pub(crate) fn new(alloc: Global) -> Draft
@@ -224,6 +225,19 @@ impl Draft {
         if self.has_steps() {
             return Err(LineFault::Bad(Problem::Place(Misplaced::Late)));
         }
+        self.give_script(alloc, dev, ep, answers)
+    }
+
+    /// Gives an endpoint of a device its script, where it has none so far.
+    fn give_script(
+        &mut self,
+        alloc: Global,
+        dev: DeviceNo,
+        ep: EpAddr,
+        answers: Script,
+    ) -> Result<(), LineFault>
+        ensures { Becomes result (with_device (device_with ep answers) dev self.old) self.old self.new }
+    {
         let place = usize::from(dev.number());
         if place >= self.devices.len() {
             return Err(LineFault::Bad(Problem::Place(Misplaced::NoDevice)));

@@ -7,7 +7,7 @@
 //!
 //! # Files
 //!
-//! - `handle.rt`, `names.rt`, `option.rt`: handles, and the numbers of transfers; sets of names; the options of a submission
+//! - `handles.rt`, `names.rt`, `option.rt`: handles, and the numbers of transfers; sets of names; the options of a submission
 //! - `verb.rt`, `line.rt`: first words; one line
 //! - `submit.rt`, `step.rt`: the lines of submissions, of other pieces of a plan
 //! - `expectations.rt`: what the lines of a text expect of the packets that devices take
@@ -55,7 +55,7 @@ mod described;
 mod draft;
 mod expectations;
 mod findings;
-mod handle;
+mod handles;
 pub mod laws;
 mod line;
 mod lined;
@@ -73,7 +73,7 @@ mod verb;
 pub use described::DescribedDevice;
 pub use expectations::{ExpectedPackets, read_expected};
 pub use findings::{Counts, Finding, Findings, check};
-pub use handle::handle;
+pub use handles::handle;
 pub use line::Line;
 pub use lined::{Lined, NumberedLine, read_lined};
 pub use option::Options;

@@ -4,7 +4,7 @@ ghost use Rattle.trace_scenario.specs.LineResults.{ReadsPiece};
 ghost use Rattle.trace_scenario.specs.Step.{bare_of, open_of, close_of, claim_of, release_of, reset_of, clear_of, cancel_of, expire_of, serve_of, unplug_of, return_of};
 ghost use Rattle.usb_scripttext.specs.Words.{words_of};
 
-use crate::handle::{handle, number};
+use crate::handles::{handle, number};
 use usb_model::{Plan, Step};
 use usb_scripttext::number::{address, device, interface};
 use usb_scripttext::{LineFault, Problem};

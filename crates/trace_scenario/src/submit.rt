@@ -7,7 +7,7 @@ ghost use Rattle.trace_scenario.specs.LineResults.{ReadsSubmitted, submitted_lin
 ghost use Rattle.usb_scripttext.specs.Words.{words_of};
 
 use crate::Options;
-use crate::handle::handle;
+use crate::handles::handle;
 use std::alloc::Global;
 use usb_model::{Body, EpAddr, Kind, Name, Request, Rule};
 use usb_scripttext::number::{address, bytes, decimal_u32};

@@ -20,10 +20,9 @@
 //!
 //! # Contracts
 //!
-//! - `read_desk`: the devices of the text, or the number of the first line that isn't taken. A line that a scenario has too,
-//!   `device` and `script`, is read as a scenario's (`scenario_of` of the text whose other lines are empty); each device can be
-//!   made (`CanBeMade`). A text of good lines is then asked for the first that can't mean anything (`applies`, `is_said`). Want of
-//!   memory leaves it open
+//! - `read_desk`: the devices of the text, or the number of the first line that isn't taken behind those before it. What `device` and
+//!   `script` lines say is said by `usb_scripttext`, as in a scenario; each device can be made (`CanBeMade`). A text of good lines is
+//!   then asked for the first that can't mean anything (`applies`, `is_said`). Want of memory leaves it open
 //! - `complain`: of a text that isn't taken the number of that line, and a reason that fits it (`Fits`): not that it is the only one,
 //!   nor that it is more than "the line can't stand here"
 //! - `DeskDevice::reply`: of the first answers that a request fits the one of its turn, the last for ever; else what the
