@@ -11,4 +11,7 @@ mod TellsSubmissions
 mod TellsTurns
 mod Told
 mod Unquiet
+mod Truths
+mod TrueCalls
+mod TrueReasons
 mod Explains

@@ -1,11 +1,11 @@
 -- What isn't quiet: it is found exactly where not all is quiet.
-use Rattle.std.proofs.Common.{◌≡◌, ℕ, Bool, true, false, not, ◌&&◌, ◌||◌, List, [], ◌∷◌, Option, Some, None, refl, ap, sym, ◌∙◌, cond, subst}
+use Rattle.std.proofs.Common.{◌≡◌, ℕ, Bool, true, false, not, ◌&&◌, ◌||◌, List, [], ◌∷◌, Option, Some, None, ap, sym, ◌∙◌, cond}
 use Rattle.std.specs.List.{find, list_all}
 use Rattle.std.specs.Option.{option_and_then, option_map_or, unwrap_or}
 use Rattle.usb_model.specs.declared.refusal.Obstacle.{Obstacle}
 use Rattle.usb_model.specs.declared.refusal.Obstacle.TheVariants as obstacle
 use Rattle.usb_model.specs.declared.setup.EndpointInfo.{EndpointInfo}
-use Rattle.usb_model.specs.Machine.{Machine, are_quiet, device_of, endpoint_at, is_quiet}
+use Rattle.usb_model.specs.Machine.{Machine, device_of, endpoint_at, is_quiet}
 use Rattle.usb_model.specs.Machine.Calls.{busy_at, quiet_facts}
 use Rattle.usb_model.specs.Setup.{Setup, endpoints_of}
 

@@ -8,5 +8,6 @@ pub mod Ends
 pub mod Turns
 pub mod Reasons
 pub mod Sorts
+pub mod Truth
 pub mod Explained
 pub mod Packets

@@ -10,12 +10,14 @@ ghost use Rattle.usb_model.specs.declared.reply.Returned.{Returned};
 ghost use Rattle.usb_model.specs.declared.step.Step.{Step};
 ghost use Rattle.usb_model.specs.Setup.{Setup};
 ghost use Rattle.usb_model.specs.World.{World, turn};
+ghost use Rattle.trace_explain.specs.declared.refusal.CallRefusal.{CallRefusal};
 ghost use Rattle.trace_explain.specs.declared.sentence.CalledWith.{CalledWith};
 ghost use Rattle.trace_explain.specs.declared.sentence.Ending.{Ending};
 ghost use Rattle.trace_explain.specs.declared.sentence.Idleness.{Idleness};
-ghost use Rattle.trace_explain.specs.declared.sentence.Reason.TheVariants.{Called, Ended, Failed, Idle, Nak};
+ghost use Rattle.trace_explain.specs.declared.sentence.Reason.TheVariants.{Called, Ended, Failed, Idle, Nak, Refused as IsRefused};
 ghost use Rattle.trace_explain.specs.declared.sentence.Unready.{Unready};
 ghost use Rattle.trace_explain.specs.Reasons.{reason_of};
+ghost use Rattle.trace_explain.specs.Truth.{IsTrue};
 ghost use Rattle.trace_explain.specs.Sorts.{code_of, refusal_of, sort_of, sort_of_reply};
 
 /// The reason of a step is of its reply's sort, and where a reply needs none, there is none.
@@ -27,6 +29,11 @@ pub fn sorts()
 pub fn refusals()
     ensures { (setup : Setup) (w : World) (step : Step) (why : Refused) → (turn setup w step).entry.reply ≡ reply.Refused why
         → option_and_then refusal_of (reason_of setup w step) ≡ Some why }
+{}
+
+/// What is told of a refused call is true of the world in which the call is made: of its devices, lines, results and callbacks (`Says`).
+pub fn truths()
+    ensures { (setup : Setup) (w : World) (step : Step) (x : CallRefusal) → reason_of setup w step ≡ Some (IsRefused x) → IsTrue setup w step x }
 {}
 
 /// A step with nothing to do, a packet that wasn't ready, an end, an order that failed and a callback have reasons of

@@ -12,8 +12,8 @@
 //!   transfers and the endpoints of a device
 //! - `caller.rt`, `calls.rt`, `quiet.rt`: what a call reads; open, close, claim, release, reset and Unplug; what is under
 //!   way at an endpoint
-//! - `submissions.rt`, `shape.rt`, `asks.rt`: the end of a halt, submit and the verdicts of callbacks; a request without
-//!   its bytes; cancel and expire
+//! - `submissions.rt`, `tests_of_calls.rt`, `asks.rt`: the end of a halt, submit and the verdicts of callbacks; their tests, over the
+//!   facts that they look at; cancel and expire
 //! - `turns.rt`, `ends.rt`, `answers.rt`: the steps of device, controller and event loop; how a transfer ends, read off
 //!   its answers without a copy of their bytes
 //! - `step.rt`, `laws.rt`: the reason of a step; what it has to do with the reply
@@ -27,10 +27,12 @@
 //! # Contracts
 //!
 //! - `reason`: the definition's reason of a step in the world that a system is, asked before the step is made
-//! - `Display` of `Reason`, `Refusal` and their parts: the text of its definition, byte for byte
-//! - `Refusal::refused`: what a call is refused with for this reason
+//! - `Display` of `Reason`, `CallRefusal` and their parts: the text of its definition, byte for byte
 //! - `sorts`, `refusals`, `others`: a refused step has a reason, of a test that refuses with what the reply says; an idle
 //!   step, a packet that wasn't ready, an end, an order that failed and a callback have one of their sorts; no other has
+//! - `truths`: what is told of a refused call is true of the world in which the call is made, in the world's own words (specs/Truth): a
+//!   transfer that is said to be in a line is in progress there, and what is said to keep the places of an endpoint are the counts of its
+//!   line and of its results, which are at least 16 together
 //!
 //! - `explained_run`: the text is that of the definition (`explained_text`): entries of the plan's run, and reasons (`reason_of`) or packets (`packets_moved` of `reference`) of the very steps that the plan stands for. The plain program makes
 //!   the run, since between two of its steps all that handles have can be looked at
