@@ -244,7 +244,6 @@ struct libusb_context {
     struct hotplug *hotplugs;
     pthread_cond_t moved;             /* with process.lock: a callback returned, or nobody handles events any more; with closers:
                                        * a callback begins, or the handler is back */
-    pthread_cond_t left;              /* with process.lock, once it isn't open: who handled events, or waited for that, doesn't any more */
     pthread_mutex_t waiters;
     pthread_cond_t happened;          /* with `waiters`: a callback returned, or nobody handles events any more */
     struct notice all_notices[DEVICES][2];
@@ -254,6 +253,7 @@ struct libusb_context {
     int log_level;                    /* atomic: it is written under `process.lock` */
     bool log_is_fixed;                /* by LIBUSB_DEBUG */
     libusb_log_cb log;
+    pthread_cond_t left;              /* with process.lock, once it isn't open: who handled events, or waited for that, doesn't any more */
 };
 
 /* What an endpoint has left of its script, and whether it is halted. */

@@ -80,19 +80,19 @@ void release_context(struct libusb_context *context);
 
 /* core.c: the core's calls, each of which the trace has. A negative answer is libusb's. */
 int core_call(struct core *core, enum tirnouch_verb verb, int name, uint8_t a, uint64_t n);
-int core_submit(struct transfer *transfer, int length, uint8_t flags);
+_Noreturn void end_for_memory(void);
+void trace_submission(struct transfer *transfer, int length, uint8_t flags, int answer);
 struct rest core_rest(const struct pipe *pipe);
 bool core_serves(const struct pipe *pipe);
 bool core_serve(struct pipe *pipe, uint32_t most, struct tirnouch_reply *reply);
 bool core_settle_in(struct core *core, uint32_t most);
 bool core_settle(uint32_t most);
 struct transfer *core_take(struct core *core, struct tirnouch_result *result);
-struct transfer *core_turn(const struct pipe *pipe, struct tirnouch_result *result);
 void trace_feed(const struct pipe *pipe, uint8_t kind, const uint8_t *bytes, int count);
 
 /* claims.c */
 int claim(struct libusb_device_handle *handle, int interface);
-int claim_in_passing(struct libusb_device_handle *handle, int interface);
+int claim_unasked(struct libusb_device_handle *handle, int interface);
 void unclaim(struct libusb_device_handle *handle, int interface);
 int name_interface(struct device *device, int interface, int name);
 int make_new(struct device *device, int interface);

@@ -107,19 +107,12 @@ int claim(struct libusb_device_handle *handle, int interface)
     return 0;
 }
 
-static int claim_unasked(struct libusb_device_handle *handle, int interface)
+int claim_unasked(struct libusb_device_handle *handle, int interface)
 {
     int r = claim(handle, interface);
     if (!r)
         note(handle->context, LIBUSB_LOG_LEVEL_INFO, "interface %d is used before it is claimed: it is claimed", interface);
     return r;
-}
-
-/* An interface that is used before it was claimed is claimed, as Linux has it: the handle holds it until it is closed, or claims it itself
- * and releases it. */
-int claim_in_passing(struct libusb_device_handle *handle, int interface)
-{
-    return handle->claimed >> interface & 1 ? 0 : claim_unasked(handle, interface);
 }
 
 /* Nothing of it is in progress. A driver of the system that was detached stays so: only a release by hand binds it again. */

@@ -4,6 +4,13 @@
 #include <stdio.h>
 #include <stdlib.h>
 
+/* The core gave back memory that isn't the transfer's: nothing is sure any more. */
+void end_for_memory(void)
+{
+    fputs("libusb: error: a result came back with memory of another transfer: this is a fault of Tirnouch's\n", stderr);
+    abort();
+}
+
 static const char *const verbs[] = {
     [TIRNOUCH_OPEN] = "open ", [TIRNOUCH_CLOSE] = "close ", [TIRNOUCH_CLAIM] = "claim ", [TIRNOUCH_RELEASE] = "release ",
     [TIRNOUCH_RESET] = "reset ", [TIRNOUCH_CLEAR_HALT] = "clear ", [TIRNOUCH_CANCEL] = "cancel ", [TIRNOUCH_EXPIRE] = "expire ",
@@ -73,7 +80,7 @@ static void trace_request(struct transfer *transfer, int length, uint8_t flags)
     trace_text(transfer->deadline ? " timeout=1\n" : "\n");
 }
 
-static void trace_submission(struct transfer *transfer, int length, uint8_t flags, int answer)
+void trace_submission(struct transfer *transfer, int length, uint8_t flags, int answer)
 {
     struct core *core = transfer->pipe->core;
     if (answer == LIBUSB_ERROR_NO_MEM) {
@@ -90,29 +97,6 @@ static void trace_submission(struct transfer *transfer, int length, uint8_t flag
         trace_text("\n");
     }
     trace_out();
-}
-
-/* A transfer's next piece, of so many bytes. One that reads lends its part of the program's buffer: the packets' bytes go straight into
- * it. That its time is over is told by an expiry, so any timeout but 0 will do. */
-int core_submit(struct transfer *transfer, int length, uint8_t flags)
-{
-    const struct pipe *pipe = transfer->pipe;
-    struct tirnouch_slot *core = &pipe->core->slot;
-    uint8_t name = (uint8_t)pipe->name, *at = length ? public_of(transfer)->buffer + transfer->moved : process.nowhere;
-    uint32_t timeout = transfer->deadline ? 1 : 0;
-    uint64_t payload = (uint64_t)(uintptr_t)transfer;
-    bool lends = length && is_in(pipe->ep);
-    struct tirnouch_memory memory = { .at = at, .len = (size_t)length };
-    struct tirnouch_reply reply;
-    int answer = lends ? tirnouch_submit_in(core, name, pipe->ep, pipe->kind, flags, timeout, &memory, payload, &reply)
-                       : tirnouch_submit(core, name, pipe->ep, pipe->kind, flags, timeout, 0, at, (size_t)length, payload, &reply);
-    if (!answer) {
-        transfer->number = reply.number;
-        transfer->lent = lends ? at : process.nowhere;
-    }
-    if (process.bus.is_traced)
-        trace_submission(transfer, length, flags, answer);
-    return answer;
 }
 
 static struct tirnouch_view look_at(const struct pipe *pipe)
@@ -225,23 +209,6 @@ static void trace_result(const struct tirnouch_result *result, const struct tran
     trace_out();
 }
 
-/* The core gave back memory that isn't the transfer's: nothing is sure any more. */
-static _Noreturn void end_for_memory(void)
-{
-    fputs("libusb: error: a result came back with memory of another transfer: this is a fault of Tirnouch's\n", stderr);
-    abort();
-}
-
-/* The transfer of a result. What it lent is the program's again. The core's contract has the bytes that stand in the memory which comes
- * back, but not its address; so it is asked here, the one place that each result comes by. */
-static struct transfer *transfer_of(const struct tirnouch_result *result, const struct tirnouch_memory *back)
-{
-    struct transfer *transfer = (struct transfer *)(uintptr_t)result->payload;
-    if (back->at != transfer->lent)
-        end_for_memory();
-    return transfer;
-}
-
 /* The oldest result goes out. Its transfer, or NULL where there is none. */
 struct transfer *core_take(struct core *core, struct tirnouch_result *result)
 {
@@ -256,11 +223,3 @@ struct transfer *core_take(struct core *core, struct tirnouch_result *result)
     return transfer;
 }
 
-/* In one call, which no trace has: a device answers packets at an endpoint, what is to be done behind them is done, and the oldest
- * result goes out. Its transfer, or NULL where there is none. */
-struct transfer *core_turn(const struct pipe *pipe, struct tirnouch_result *result)
-{
-    struct tirnouch_memory back = no_memory();
-    int answer = tirnouch_turn(&pipe->core->slot, pipe->number, pipe->ep, ALL, ALL, &back, result);
-    return answer == 1 ? transfer_of(result, &back) : NULL;
-}

@@ -1,5 +1,6 @@
 /* What each transfer comes by several times, inline for its speed: where most often nothing is to be done, that is found out here, and the
- * rest is a call. What decides more than that stands in the .c files. bus.h includes this file. */
+ * rest is a call. What decides more stands in the .c files, but for the calls of the core that each transfer makes, and the claim before
+ * them: as calls in their turn those cost a read of 8 bytes some hundredths. bus.h includes this file. */
 #ifndef INLINE_H
 #define INLINE_H
 
@@ -64,6 +65,13 @@ static inline void random_steps(void)
         random_steps_by_dice();
 }
 
+/* An interface that is used before it was claimed is claimed, as Linux has it: the handle holds it until it is closed, or claims it itself
+ * and releases it. */
+static inline int claim_in_passing(struct libusb_device_handle *handle, int interface)
+{
+    return handle->claimed >> interface & 1 ? 0 : claim_unasked(handle, interface);
+}
+
 static inline void join(struct transfers *queue, struct transfer *transfer)
 {
     transfer->behind = NULL;
@@ -96,6 +104,48 @@ static inline bool is_told(const struct libusb_context *context, int answer)
 static inline struct tirnouch_memory no_memory(void)
 {
     return (struct tirnouch_memory){ .at = process.nowhere };
+}
+
+/* A transfer's next piece, of so many bytes. One that reads lends its part of the program's buffer: the packets' bytes go straight into
+ * it. That its time is over is told by an expiry, so any timeout but 0 will do. */
+static inline int core_submit(struct transfer *transfer, int length, uint8_t flags)
+{
+    const struct pipe *pipe = transfer->pipe;
+    struct tirnouch_slot *core = &pipe->core->slot;
+    uint8_t name = (uint8_t)pipe->name, *at = length ? public_of(transfer)->buffer + transfer->moved : process.nowhere;
+    uint32_t timeout = transfer->deadline ? 1 : 0;
+    uint64_t payload = (uint64_t)(uintptr_t)transfer;
+    bool lends = length && is_in(pipe->ep);
+    struct tirnouch_memory memory = { .at = at, .len = (size_t)length };
+    struct tirnouch_reply reply;
+    int answer = lends ? tirnouch_submit_in(core, name, pipe->ep, pipe->kind, flags, timeout, &memory, payload, &reply)
+                       : tirnouch_submit(core, name, pipe->ep, pipe->kind, flags, timeout, 0, at, (size_t)length, payload, &reply);
+    if (!answer) {
+        transfer->number = reply.number;
+        transfer->lent = lends ? at : process.nowhere;
+    }
+    if (process.bus.is_traced)
+        trace_submission(transfer, length, flags, answer);
+    return answer;
+}
+
+/* The transfer of a result. What it lent is the program's again. The core's contract has the bytes that stand in the memory which comes
+ * back, but not its address; so it is asked here, the one place that each result comes by. */
+static inline struct transfer *transfer_of(const struct tirnouch_result *result, const struct tirnouch_memory *back)
+{
+    struct transfer *transfer = (struct transfer *)(uintptr_t)result->payload;
+    if (back->at != transfer->lent)
+        end_for_memory();
+    return transfer;
+}
+
+/* In one call, which no trace has: a device answers packets at an endpoint, what is to be done behind them is done, and the oldest
+ * result goes out. Its transfer, or NULL where there is none. */
+static inline struct transfer *core_turn(const struct pipe *pipe, struct tirnouch_result *result)
+{
+    struct tirnouch_memory back = no_memory();
+    int answer = tirnouch_turn(&pipe->core->slot, pipe->number, pipe->ep, ALL, ALL, &back, result);
+    return answer == 1 ? transfer_of(result, &back) : NULL;
 }
 
 #endif

@@ -1,6 +1,6 @@
 //! A device's interfaces and endpoints, as the core reads its configuration.
 
-ghost use Rattle.std.specs.Prelude.{◌≡◌};
+ghost use Rattle.std.specs.Prelude.{◌≡◌, slice_get};
 ghost use Rattle.usb_core.specs.Public.{ShowsWorld};
 ghost use Rattle.usb_model.specs.Setup.{Setup, endpoints_of, interfaces_of};
 ghost use Rattle.usb_model.specs.World.{World};
@@ -70,13 +70,27 @@ fn endpoints_of(session: &Session, dev: DeviceNo) -> &[EndpointInfo]
     }
 }
 
+/// The number of this index.
+fn number_at(numbers: &[u8], i: usize) -> Option<u8>
+    ensures { result ≡ slice_get numbers.now i }
+{
+    numbers.get(i).copied()
+}
+
+/// The endpoint of this index.
+fn info_at(infos: &[EndpointInfo], i: usize) -> Option<EndpointInfo>
+    ensures { result ≡ slice_get infos.now i }
+{
+    infos.get(i).copied()
+}
+
 /// The number of a device's interface of this index; NotFound past the last.
 pub fn interface(session: &Session, dev: DeviceNo, i: usize) -> i32
     ensures { HasInterface dev i result session.now }
 {
-    match interfaces_of(session, dev).get(i) {
+    match number_at(interfaces_of(session, dev), i) {
         None => NOT_FOUND,
-        Some(number) => i32::from(*number),
+        Some(number) => i32::from(number),
     }
 }
 
@@ -84,10 +98,10 @@ pub fn interface(session: &Session, dev: DeviceNo, i: usize) -> i32
 pub fn endpoint(session: &Session, dev: DeviceNo, i: usize, facts: &mut EndpointFacts) -> i32
     ensures { HasEndpoint dev i result facts.old facts.new session.now }
 {
-    match endpoints_of(session, dev).get(i) {
+    match info_at(endpoints_of(session, dev), i) {
         None => NOT_FOUND,
         Some(info) => {
-            *facts = EndpointFacts::of(info);
+            *facts = EndpointFacts::of(&info);
             0
         }
     }
