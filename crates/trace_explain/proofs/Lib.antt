@@ -14,4 +14,5 @@ mod Unquiet
 mod Truths
 mod TrueCalls
 mod TrueReasons
+mod TrueTurns
 mod Explains

@@ -1,5 +1,5 @@
 -- What the sentence of a refusal says of a world, as it is to the handle that calls: of its devices, lines, results and callbacks, and of no test.
-use Rattle.std.specs.Prelude.{◌≡◌, ◌≢◌, ℕ, ◌+◌, ◌==◌, ◌<◌, ◌≤◌, ◌⊎◌, true, false, not, ◌&&◌, Option, Some, None, is_some, IfSome}
+use Rattle.std.specs.Prelude.{◌≡◌, ◌≢◌, ℕ, ◌+◌, ◌==◌, ◌<◌, ◌≤◌, ◌⊎◌, true, false, not, ◌&&◌, Option, Some, None, is_some, IfSome, List, [], ◌∷◌}
 use Rattle.std.specs.List.{AllByRecursion, count_by, list_any}
 use Rattle.usb_model.specs.declared.endpoint.Endpoint.{Endpoint}
 use Rattle.usb_model.specs.declared.item.Item.{Item}
@@ -15,18 +15,34 @@ use Rattle.usb_model.specs.declared.request.Body.TheVariants.{Out}
 use Rattle.usb_model.specs.declared.request.Kind.TheVariants.{Control, Isochronous}
 use Rattle.usb_model.specs.declared.request.Request.{Request}
 use Rattle.usb_model.specs.declared.result.InCallback.{InCallback}
+use Rattle.usb_model.specs.declared.endpoint.EndpointState.{EndpointState}
+use Rattle.usb_model.specs.declared.endpoint.EndpointState.TheVariants.{Running}
+use Rattle.usb_model.specs.declared.order.Order.{Order}
+use Rattle.usb_model.specs.declared.response.Response.{Response}
+use Rattle.usb_model.specs.declared.response.Response.TheVariants as response
+use Rattle.usb_model.specs.declared.result.TransferResult.{TransferResult}
+use Rattle.usb_model.specs.declared.shared.Tagged.{Tagged}
 use Rattle.usb_model.specs.declared.step.Step.{Step}
-use Rattle.usb_model.specs.declared.step.Step.TheVariants.{Open, Close, Claim, Release, Reset, ClearHalt, Submit, Cancel, Expire, Answer}
+use Rattle.usb_model.specs.declared.step.Step.TheVariants.{Open, Close, Claim, Release, Reset, ClearHalt, Submit, Cancel, Expire, Serve, Answer, Unplug}
 use Rattle.usb_model.specs.declared.verdict.Verdict.{Verdict}
 use Rattle.usb_model.specs.declared.verdict.Verdict.TheVariants.{Stop, Again, AgainWith}
-use Rattle.usb_model.specs.Endpoint.{in_progress, is_blank}
+use Rattle.usb_model.specs.Endpoint.{first_waiting, in_progress, is_blank}
 use Rattle.usb_model.specs.Machine.{Machine, device_of, endpoint_at, is_callback_at, is_result_at}
 use Rattle.usb_model.specs.Machine.Calls.{callback_of}
 use Rattle.usb_model.specs.Requests.{is_read, is_same_kind, length_of}
 use Rattle.usb_model.specs.Setup.{Setup, endpoints_of, has_interface, interface_of, is_device, is_in, kind_of}
-use Rattle.usb_model.specs.World.{Claims, World, machine_of}
+use Rattle.usb_model.specs.World.{Claims, World, holder, machine_of}
 use Rattle.trace_explain.specs.declared.refusal.CallRefusal.{CallRefusal}
-use Rattle.trace_explain.specs.Endpoints.{listed_of}
+use Rattle.trace_explain.specs.declared.refusal.UnplugRefusal.{UnplugRefusal}
+use Rattle.trace_explain.specs.declared.refusal.UnplugRefusal.TheVariants as unplug
+use Rattle.trace_explain.specs.declared.sentence.CalledWith.{CalledWith}
+use Rattle.trace_explain.specs.declared.sentence.Idleness.{Idleness}
+use Rattle.trace_explain.specs.declared.sentence.Idleness.TheVariants as idleness
+use Rattle.trace_explain.specs.declared.sentence.Reason.{Reason}
+use Rattle.trace_explain.specs.declared.sentence.Reason.TheVariants as reason
+use Rattle.trace_explain.specs.declared.sentence.Unready.{Unready}
+use Rattle.trace_explain.specs.declared.sentence.Unready.TheVariants as unready
+use Rattle.trace_explain.specs.Endpoints.{listed, listed_of}
 
 -- a transfer of this number is in progress at an endpoint of the handle's
 pub record InProgress (m : Machine) (n : ℕ) (Has : Item → Type 0) : Type 0 where
@@ -134,3 +150,62 @@ pub record IsTrue (setup : Setup) (w : World) (step : Step) (x : CallRefusal) : 
   pub whose : caller_of step ≡ Some x.h
   pub endpoints : x.endpoints ≡ listed_of setup (w.names x.h).device
   pub refusal : Says setup x.h (machine_of setup x.h w) w.claims (request_in (machine_of setup x.h w) step) x.refusal
+
+-- why there was nothing to do
+abbrev pub IdleIs : Setup → World → Step → Idleness → Type 0
+IdleIs setup w step (idleness.NoDevice dev) = is_device setup dev ≡ false
+IdleIs setup w step (idleness.NoEndpoint dev ep list) = (is_device setup dev ≡ true) × (interface_of setup dev ep ≡ None) × (list ≡ listed (endpoints_of setup dev))
+IdleIs setup w step (idleness.NoHolder dev ep) = (is_some (interface_of setup dev ep) ≡ true) × (holder setup w.claims dev ep ≡ None)
+IdleIs setup w step (idleness.Stands ep state) = (dev : ℕ) × (step ≡ Serve dev ep) × ((w.endpoints dev ep).state ≡ state) × (state ≢ Running)
+IdleIs setup w step (idleness.NoTransfer ep) = (dev : ℕ) × (step ≡ Serve dev ep) × (first_waiting (w.endpoints dev ep).line ≡ None)
+IdleIs setup w step idleness.NoOrder = w.orders ≡ []
+IdleIs setup w step idleness.NoEvent = w.news ≡ []
+IdleIs setup w step idleness.NoResult = w.results ≡ []
+IdleIs setup w step (idleness.Lost h ep) = endpoint_at (machine_of setup h w) ep ≡ None
+
+-- why a device gave no packet, at this endpoint
+abbrev pub UnreadyAt : Endpoint → Unready → Type 0
+UnreadyAt e (unready.Nak ep) = (rest : List Response) × (e.script_left ≡ response.Nak ∷ rest)
+UnreadyAt e (unready.ScriptEnd ep) = (e.device_halted ≡ false) × (e.script_left ≡ [])
+UnreadyAt e (unready.Halted ep) = e.device_halted ≡ true
+
+abbrev pub unready_ep : Unready → ℕ
+unready_ep (unready.Nak ep) = ep
+unready_ep (unready.ScriptEnd ep) = ep
+unready_ep (unready.Halted ep) = ep
+
+-- of a step by which it was asked
+abbrev pub UnreadyIs : World → Step → Unready → Type 0
+UnreadyIs w step x = (dev : ℕ) × (step ≡ Serve dev (unready_ep x)) × UnreadyAt (w.endpoints dev (unready_ep x)) x
+
+-- an order failed at an endpoint in this state
+pub record FailedIs (setup : Setup) (w : World) (ep : ℕ) (state : EndpointState) : Type 0 where
+  pub order : Tagged Order
+  pub rest : List (Tagged Order)
+  pub first : w.orders ≡ order ∷ rest
+  pub its : order.piece.ep ≡ ep
+  pub stands : IfSome (endpoint_at (machine_of setup order.name w) ep) (λ e. e.state ≡ state)
+
+-- a callback is told what the first result has
+pub record CalledIs (w : World) (x : CalledWith) : Type 0 where
+  pub result : Tagged TransferResult
+  pub rest : List (Tagged TransferResult)
+  pub first : w.results ≡ result ∷ rest
+  pub status : x.status ≡ result.piece.status
+  pub moved : x.moved ≡ result.piece.actual
+  pub bytes : x.bytes ≡ length_of result.piece.request.body
+
+-- why a device can't be unplugged
+abbrev pub UnplugIs : Setup → World → Step → UnplugRefusal → Type 0
+UnplugIs setup w step (unplug.NoSuchDevice dev) = (step ≡ Unplug dev) × (is_device setup dev ≡ false)
+UnplugIs setup w step (unplug.Unplugged dev) = (step ≡ Unplug dev) × (w.gone dev ≡ true)
+
+-- what a reason says, but for a refused call and for how a transfer ended
+abbrev pub ReasonIs : Setup → World → Step → Reason → Type 0
+ReasonIs setup w step (reason.Refused x) = Unit {0}
+ReasonIs setup w step (reason.UnplugRefused x) = UnplugIs setup w step x
+ReasonIs setup w step (reason.Idle x) = IdleIs setup w step x
+ReasonIs setup w step (reason.Nak x) = UnreadyIs w step x
+ReasonIs setup w step (reason.Ended x) = Unit {0}
+ReasonIs setup w step (reason.Failed ep state) = FailedIs setup w ep state
+ReasonIs setup w step (reason.Called x) = CalledIs w x

@@ -14,10 +14,11 @@ ghost use Rattle.trace_explain.specs.declared.refusal.CallRefusal.{CallRefusal};
 ghost use Rattle.trace_explain.specs.declared.sentence.CalledWith.{CalledWith};
 ghost use Rattle.trace_explain.specs.declared.sentence.Ending.{Ending};
 ghost use Rattle.trace_explain.specs.declared.sentence.Idleness.{Idleness};
+ghost use Rattle.trace_explain.specs.declared.sentence.Reason.{Reason};
 ghost use Rattle.trace_explain.specs.declared.sentence.Reason.TheVariants.{Called, Ended, Failed, Idle, Nak, Refused as IsRefused};
 ghost use Rattle.trace_explain.specs.declared.sentence.Unready.{Unready};
 ghost use Rattle.trace_explain.specs.Reasons.{reason_of};
-ghost use Rattle.trace_explain.specs.Truth.{IsTrue};
+ghost use Rattle.trace_explain.specs.Truth.{IsTrue, ReasonIs};
 ghost use Rattle.trace_explain.specs.Sorts.{code_of, refusal_of, sort_of, sort_of_reply};
 
 /// The reason of a step is of its reply's sort, and where a reply needs none, there is none.
@@ -31,9 +32,11 @@ pub fn refusals()
         → option_and_then refusal_of (reason_of setup w step) ≡ Some why }
 {}
 
-/// What is told of a refused call is true of the world in which the call is made: of its devices, lines, results and callbacks (`Says`).
+/// What is told of a step is true of the world in which it is made: of a refused call (`refused`), and of all else but how a transfer
+/// ended (`others`).
 pub fn truths()
-    ensures { (setup : Setup) (w : World) (step : Step) (x : CallRefusal) → reason_of setup w step ≡ Some (IsRefused x) → IsTrue setup w step x }
+    ensures others { (setup : Setup) (w : World) (step : Step) (r : Reason) → reason_of setup w step ≡ Some r → ReasonIs setup w step r }
+    ensures refused { (setup : Setup) (w : World) (step : Step) (x : CallRefusal) → reason_of setup w step ≡ Some (IsRefused x) → IsTrue setup w step x }
 {}
 
 /// A step with nothing to do, a packet that wasn't ready, an end, an order that failed and a callback have reasons of

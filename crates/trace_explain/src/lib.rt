@@ -30,9 +30,11 @@
 //! - `Display` of `Reason`, `CallRefusal` and their parts: the text of its definition, byte for byte
 //! - `sorts`, `refusals`, `others`: a refused step has a reason, of a test that refuses with what the reply says; an idle
 //!   step, a packet that wasn't ready, an end, an order that failed and a callback have one of their sorts; no other has
-//! - `truths`: what is told of a refused call is true of the world in which the call is made, in the world's own words (specs/Truth): a
-//!   transfer that is said to be in a line is in progress there, and what is said to keep the places of an endpoint are the counts of its
-//!   line and of its results, which are at least 16 together
+//! - `truths`: what is told is true of the world in which the step is made, in the world's own words (specs/Truth). Of a refused call: a
+//!   transfer that is said to be in a line is in progress there, and what is said to keep the places of an endpoint are the counts of
+//!   its line and of its results, which are at least 16 together. Of a step with nothing to do, a device that wasn't ready, an order
+//!   that failed, a callback and an Unplug: what is said of the endpoint, the lists and the result. Of how a transfer ended `others` has
+//!   the code, and no law its bytes
 //!
 //! - `explained_run`: the text is that of the definition (`explained_text`): entries of the plan's run, and reasons (`reason_of`) or packets (`packets_moved` of `reference`) of the very steps that the plan stands for. The plain program makes
 //!   the run, since between two of its steps all that handles have can be looked at
