@@ -6,7 +6,7 @@ use Rattle.usb_devicetext.specs.declared.statement.Awaited.{Awaited}
 use Rattle.usb_devicetext.specs.declared.statement.Awaited.TheVariants as awaited
 use Rattle.usb_devicetext.specs.declared.statement.Control.{Control}
 use Rattle.usb_devicetext.specs.declared.statement.Departure.{Departure}
-use Rattle.usb_devicetext.specs.declared.statement.Gate.{Gate}
+use Rattle.usb_devicetext.specs.declared.statement.DeviceGate.{DeviceGate}
 use Rattle.usb_devicetext.specs.declared.statement.Pattern.{Pattern}
 use Rattle.usb_devicetext.specs.declared.word.Speed.{Speed}
 use Rattle.usb_devicetext.specs.declared.word.Speed.TheVariants.{Full, High, Low}
@@ -85,7 +85,7 @@ awaited_numbers (awaited.Requests p) ep place count = record {
   count = count;
 }
 
-abbrev pub gate_numbers : Gate → AnswerGate
+abbrev pub gate_numbers : DeviceGate → AnswerGate
 gate_numbers g = awaited_numbers g.awaited g.ep g.place g.count
 
 abbrev pub Waits : (dev i : ℕ) → ℤ → (old new : AnswerGate) → Session → Type 0

@@ -5,7 +5,7 @@ ghost use Rattle.tirnouch_c.specs.Facts.{Departs, Drives, HasAnswers, HasFacts, 
 
 use crate::results::answer_of;
 use crate::session::Session;
-use usb_devicetext::{Awaited, Control, Departure, DeskDevice, Gate, Pattern, Speed};
+use usb_devicetext::{Awaited, Control, Departure, DeskDevice, DeviceGate, Pattern, Speed};
 
 /// libusb's number of what isn't there (libusb 1.0, `libusb_error`).
 pub const NOT_FOUND: i32 = -5;
@@ -99,7 +99,7 @@ impl DeviceFacts {
 
 impl AnswerGate {
     /// The same in numbers.
-    fn of(gate: &Gate) -> AnswerGate
+    fn of(gate: &DeviceGate) -> AnswerGate
         ensures { result ≡ gate_numbers gate.now }
     {
         match gate.awaited {

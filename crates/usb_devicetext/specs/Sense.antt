@@ -16,7 +16,7 @@ use Rattle.usb_devicetext.specs.declared.sense.Subject.TheVariants as subject
 use Rattle.usb_devicetext.specs.declared.statement.Awaited.{Awaited}
 use Rattle.usb_devicetext.specs.declared.statement.Awaited.TheVariants as awaited
 use Rattle.usb_devicetext.specs.declared.statement.Departure.{Departure}
-use Rattle.usb_devicetext.specs.declared.statement.Gate.{Gate}
+use Rattle.usb_devicetext.specs.declared.statement.DeviceGate.{DeviceGate}
 use Rattle.usb_devicetext.specs.declared.statement.Statement.{Statement}
 use Rattle.usb_devicetext.specs.declared.statement.Statement.TheVariants as says
 use Rattle.usb_devicetext.specs.declared.word.Speed.{Speed}
@@ -29,7 +29,7 @@ abbrev pub answer_count : DeviceSetup → ℕ → Option ℕ
 answer_count d ep = if takes_script d.config ep then option_map length (slice_get d.scripts (endpoint_id ep)) else None
 
 -- answers wait from one on that the endpoint has, counted from 0
-abbrev pub has_place : DeviceSetup → Gate → Bool
+abbrev pub has_place : DeviceSetup → DeviceGate → Bool
 has_place d g = option_map_or (nat_lt g.place) (answer_count d g.ep) false
 
 -- and until packets were taken at the default control endpoint, or at a bulk or interrupt endpoint for OUT
@@ -41,7 +41,7 @@ abbrev pub can_wait_for : DeviceSetup → ℕ → Awaited → Bool
 can_wait_for d ep (awaited.At other) = (other == ep) || takes_packets d other
 can_wait_for d ep (awaited.Requests pattern) = true
 
-abbrev pub can_wait : DeviceSetup → Gate → Bool
+abbrev pub can_wait : DeviceSetup → DeviceGate → Bool
 can_wait d g = can_wait_for d g.ep g.awaited
 
 -- a device is pulled out behind as many answers as the endpoint has at most

@@ -3,7 +3,7 @@
 ghost use Rattle.std.specs.Prelude.{◌≡◌, ◌+◌, ◌<◌, IfOk};
 ghost use Rattle.usb_devicetext.specs.Device.{new_device, with_class, with_ids, with_text, said, set_word};
 
-use crate::statement::{Class, Control, Departure, Gate, Ids, Statement, Text};
+use crate::statement::{Class, Control, Departure, DeviceGate, Ids, Statement, Text};
 use crate::word::Speed;
 use std::alloc::{AllocError, Global};
 use usb_model::{Bytes, Sequence};
@@ -36,7 +36,7 @@ pub struct DeskDevice {
     /// Its answers to requests; the first that a request fits answers it.
     pub controls: Sequence<Control>,
     /// Its answers that wait.
-    pub gates: Sequence<Gate>,
+    pub gates: Sequence<DeviceGate>,
     /// When it is pulled out.
     pub departures: Sequence<Departure>,
 }

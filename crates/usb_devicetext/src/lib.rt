@@ -30,7 +30,7 @@
 //! - `DeskDevice::count`: the answers that a request fits were asked once more, and nothing else changed
 //! - `SetupPacket::read`, `needs`: the fields of 8 bytes; the interface or the endpoint that a host has to hold
 //!
-//! It doesn't say: when answers that wait (`Gate`) go on, and when a device is pulled out (`Departure`): both are read, and are
+//! It doesn't say: when answers that wait (`DeviceGate`) go on, and when a device is pulled out (`Departure`): both are read, and are
 //! whoever serves packets to do.
 #![tactic(auto)]
 
@@ -64,7 +64,9 @@ pub use packet::{Needs, SetupPacket};
 pub use place_fault::PlaceFault;
 pub use reason::Reason;
 pub use sense::{Saying, Subject};
-pub use statement::{Awaited, Class, Control, Departure, Gate, Ids, Pattern, Statement, Text};
+pub use statement::{
+    Awaited, Class, Control, Departure, DeviceGate, Ids, Pattern, Statement, Text,
+};
 pub use topic::Topic;
 pub use wanted::Wanted;
 pub use word::Speed;

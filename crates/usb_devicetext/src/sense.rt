@@ -9,7 +9,7 @@ ghost use Rattle.usb_scripttext.specs.Results.{Becomes};
 ghost use Rattle.usb_devicetext.specs.Sense.{answer_count, applies, applies_to, can_wait, has_answers, has_place, has_speed, is_said, is_same, is_within, subject_of, takes_packets, with_saying, with_subject, with_text};
 
 use crate::line::DeskLine;
-use crate::statement::{Awaited, Departure, Gate, Statement};
+use crate::statement::{Awaited, Departure, DeviceGate, Statement};
 use crate::word::Speed;
 use std::alloc::Global;
 use std::marker::Model;
@@ -185,7 +185,7 @@ pub(crate) fn answer_count(device: &ScriptedDevice, ep: EpAddr) -> Option<usize>
 }
 
 /// Whether the endpoint has the answer from which on it waits.
-pub(crate) fn has_place(device: &ScriptedDevice, gate: &Gate) -> bool
+pub(crate) fn has_place(device: &ScriptedDevice, gate: &DeviceGate) -> bool
     ensures { result ≡ has_place device.now gate.now }
 {
     match answer_count(device, gate.ep) {
@@ -203,7 +203,7 @@ pub(crate) fn takes_packets(device: &ScriptedDevice, ep: EpAddr) -> bool
 
 /// Whether answers can wait for this: for packets that are taken somewhere; at their own endpoint for transfers that end without an answer; for
 /// any requests.
-pub(crate) fn can_wait(device: &ScriptedDevice, gate: &Gate) -> bool
+pub(crate) fn can_wait(device: &ScriptedDevice, gate: &DeviceGate) -> bool
     ensures { result ≡ can_wait device.now gate.now }
 {
     match gate.awaited {

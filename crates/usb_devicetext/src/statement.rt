@@ -81,7 +81,7 @@ pub enum Awaited {
 
 /// Answers that wait for what is to happen elsewhere.
 #[derive(Clone, Copy)]
-pub struct Gate {
+pub struct DeviceGate {
     /// Whose answers wait.
     pub ep: EpAddr,
     /// From which of them on, counted from 0.
@@ -117,7 +117,7 @@ pub enum Statement {
     /// Answers to requests.
     Control(Control),
     /// Answers that wait.
-    After(Gate),
+    After(DeviceGate),
     /// When it is pulled out.
     Leaves(Departure),
     /// It isn't there yet.
@@ -256,7 +256,7 @@ fn gate_statement(
 ) -> Result<Statement, Expected>
     ensures { result_ok result ≡ gate_with ep.now place.now (Some awaited) count.now }
 {
-    Ok(Statement::After(Gate {
+    Ok(Statement::After(DeviceGate {
         ep: address(ep)?,
         place: decimal_u32(place).ok_or(Expected::Number)?,
         awaited,
