@@ -138,7 +138,7 @@ def page(found: Sequence[Rule]) -> str:
         texts += [f"## [{part}](MODEL.md#{anchor(part)})", TABLE + "\n" + "\n".join(members)]
     missing = list(lacking(found))
     if missing:
-        texts += ["## What no test of a kind tries", *missing]
+        texts += ["## Rules that lack a kind of test", *missing]
     return "\n\n".join(texts) + "\n"
 
 

@@ -130,6 +130,7 @@ def page() -> str:
         "For a command that proves crates these are the least minutes on two and on four processors, computed from the minutes of the",
         "crates. With other work on the machine a proof takes up to twice its processor time. What was built or proved is kept: a second run",
         "of `make test` takes some minutes, for its tests and programs; the others, except `make c-test`, take no time.",
+        "`tools/changed` adds up the minutes of what a change has to try ([CONTRIBUTING.md](CONTRIBUTING.md#only-what-changed)).",
         *([""] + textwrap.wrap(f"Proofs that weren't measured, and count as nothing: {', '.join(unmeasured)}.", 138) if unmeasured else []),
         "",
         "## Proofs, crate by crate",
