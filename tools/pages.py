@@ -19,7 +19,7 @@ EXAMPLE = ROOT / "c" / "example"
 DRIVER = ROOT / "crates" / "example_first" / "src" / "meter.rt"
 HEADER = ROOT / "c" / "include" / "libusb.h"
 PAGES = [*(ROOT / it for it in ("README.md", "SECURITY.md", "CHANGELOG.md")), *sorted(DOCS.glob("*.md")), ROOT / "rows" / "README.md"]
-MOST_LINES, MOST_COLUMNS = 70, 145
+MOST_LINES, MOST_COLUMNS = 70, 140
 NUMBER = r"(?:\d[\d,]*|two|three|four|five|six|seven|eight|nine|ten|eleven|twelve|twenty|thirty|forty|fifty|hundred|dozen)"
 COUNT = re.compile(rf"\b{NUMBER} (?:worked rows|rows|crates|wrong bodies|wrong definitions|scenes|clients|laws)\b", re.IGNORECASE)
 # Names of specs, one or several behind `specs/`, and such as MODEL.md has them behind a rule's name.
