@@ -2,7 +2,7 @@
 """The wrong bodies that the gate doesn't try, for its time: tools/wrong_bodies/CRATE/NAME.edit, in the form of a crate's
 must-fail/NAME.edit. A line `rule: NAME` in front names a rule of the model that it breaks (tools/tests.py).
 
-    tools/wrong_bodies.py fit             says which of them fit their files no more; seconds, and the gate asks it
+    tools/wrong_bodies.py fit             says which of them, and of tools/plants, fit their files no more; seconds, and the gate asks it
     tools/wrong_bodies.py try [CRATE ..]  has the prover refuse each, in a copy of the repository beside it: half a minute
                                           each; and first proves the crates, where this machine's gate hasn't
 """
@@ -15,6 +15,7 @@ import tempfile
 
 ROOT = pathlib.Path(__file__).resolve().parent.parent
 KEPT = ROOT / "tools" / "wrong_bodies"
+PLANTS = ROOT / "tools" / "plants"
 
 
 def misfit(edit, crate):
@@ -43,7 +44,29 @@ def fit():
     for it, why in misfits:
         print(f"{it.relative_to(ROOT)}: {why}")
     print(f"{len(edits) - len(misfits)} wrong bodies beside the gate fit their files, {len(misfits)} don't")
-    return 1 if misfits else 0
+    plants = sorted(PLANTS.glob("**/*.patch"))
+    unfit = [it for it in plants if not applies(it)]
+    for it in unfit:
+        print(f"{it.relative_to(ROOT)}: it can't be applied")
+    print(f"{len(plants) - len(unfit)} wrong definitions and threads fit their files, {len(unfit)} don't")
+    return 1 if misfits or unfit else 0
+
+
+def applies(plant):
+    """Whether each piece of a patch of tools/plants stands in its file, with the lines around it."""
+    text, piece, pieces = "", [], []
+    for line in plant.read_text().split("\n"):
+        if line.startswith("--- a/"):
+            pieces.append((text, piece))
+            file = ROOT / line.removeprefix("--- a/")
+            text, piece = file.read_text() if file.is_file() else "", []
+        elif line.startswith("@@ "):
+            pieces.append((text, piece))
+            piece = []
+        elif line[:1] in (" ", "-") and not line.startswith("---"):
+            piece.append(line[1:])
+    pieces.append((text, piece))
+    return all("\n".join(lines) in text for text, lines in pieces if lines)
 
 
 def try_all(crates):
