@@ -86,7 +86,7 @@ class Reader:
             return f"two endpoints have the address {address:02x}"
         if kind > 1 and not 1 <= size <= MOST_SIZE:
             return f"endpoint {address:02x} has a packet size outside 1 to 1,024"
-        self.endpoints[address] = kind, self.interfaces[-1]
+        self.endpoints[address] = kind, self.interfaces[-1], size
         return None
 
     def entries(self):

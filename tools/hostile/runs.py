@@ -15,10 +15,11 @@ UNFINISHED = re.compile(rb"(h\d+ ep [0-9a-f]{2} (transfer \d+ (waits|ended)|(ord
 # Interface 0 with the bulk endpoints 81 and 02, interface 1 with the interrupt endpoints 83 and 04.
 CONFIG = "0902370002010080320904000002ff00000007058102080000070502020800000904010002ff0000000705830308000107050403040001"
 
-# A part: its cases, those of the gate, each from the words of the command; and what a case comes to, run by run.
-Part = collections.namedtuple("Part", "cases gate_cases tried")
-# A run that is tried: its class, and in words what it was and how it ended.
-Tried = collections.namedtuple("Tried", "kind text")
+# A part: its cases, those of the gate, each from the words of the command; what a case comes to, run by run; and what is counted in its
+# runs, if something is.
+Part = collections.namedtuple("Part", "cases gate_cases tried counted", defaults=((),))
+# A run that is tried: its class, in words what it was and how it ended, and how often each thing came that is counted.
+Tried = collections.namedtuple("Tried", "kind text came", defaults=({},))
 
 
 class Runs(Room):

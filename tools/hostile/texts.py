@@ -8,7 +8,8 @@ from refuse_allocations import has_whole_records
 from runs import UNFINISHED, Part, has_too_many, is_refusal, wrong_unless
 from scenarios import damaged, fed, scenario
 
-# How many texts the gate tries of each part.
+# How many texts are tried of each part, unless a number is asked for, and how many the gate tries.
+COUNT = 2_000
 GATE_COUNT = 60
 # And of those that are fed, which each word reads twice.
 GATE_FED_COUNT = 20
@@ -121,7 +122,7 @@ def part(text_of):
         dice = random.Random(seed)
         yield from tried_text(runs, f"--seed {seed}", text_of(dice), dice.randint(0, 3))
 
-    return Part(lambda asked: seeds(asked, asked.count), lambda asked: seeds(asked, GATE_COUNT), tried)
+    return Part(lambda asked: seeds(asked, asked.count or COUNT), lambda asked: seeds(asked, GATE_COUNT), tried)
 
 
 def tried_fed(runs, seed):
@@ -139,6 +140,6 @@ def seeds(asked, count):
 
 
 # The part of the texts that are fed.
-FED = Part(lambda asked: seeds(asked, asked.count), lambda asked: seeds(asked, GATE_FED_COUNT), tried_fed)
+FED = Part(lambda asked: seeds(asked, asked.count or COUNT), lambda asked: seeds(asked, GATE_FED_COUNT), tried_fed)
 # How the texts of a part are made.
 TEXTS = {"random": scenario, "damaged": damaged}
