@@ -24,7 +24,10 @@ impl Telling {
         ensures { result ≡ is_told self reason.now }
     {
         match self {
-            Telling::Refusals => matches!(reason, Some(Reason::Refused(_))),
+            Telling::Refusals => matches!(
+                reason,
+                Some(Reason::Refused(_) | Reason::UnplugRefused(_))
+            ),
             Telling::Reasons | Telling::Packets | Telling::StepPackets => true,
         }
     }
