@@ -18,6 +18,7 @@ mod InRows
 mod Reached
 mod Shown
 mod Unfinished
+mod EndpointReads
 mod Payloads
 mod Unsized
 mod PlainSteps

@@ -8,6 +8,7 @@ pub mod Results
 pub mod Pending
 pub mod Packets
 pub mod Calls
+pub mod Standing
 pub mod StepInventory
 pub mod StepBursts
 pub mod Drains

@@ -20,6 +20,8 @@ pub use Rattle.usb_core.specs.StepBursts.{Differs, burst_entries, whole_entries}
 pub use Rattle.usb_core.specs.Bursts.{TakesAndStops}
 -- what handles haven't finished, part by part
 pub use Rattle.usb_core.specs.Inventory.{waiting_result, number_in, halted}
+-- a transfer in a line
+pub use Rattle.usb_core.specs.Standing.{LineTransfer, in_line}
 -- a device is fed: the world of the longer scripts is shown where it stands; the packet that is next, or that there is none
 pub use Rattle.refine_core.specs.Feeds.{FeedsWorld, may_be_fed_at}
 pub use Rattle.refine_core.specs.Offers.{HasNone, IsNext}

@@ -32,6 +32,7 @@
 //! - drain: events and orders in a row
 //! - step_reads, pending: how long the next result is; whether a transfer can expire; what is to be done next
 //! - step_inventory, step_feeds: who holds what, and what isn't finished at an endpoint or waits in a ring
+//! - step_standing: how an endpoint stands, and a transfer in its line
 //!
 //! The core, whose invariant is that its parts show some world:
 //!
@@ -42,10 +43,11 @@
 //!   of the devices
 //! - `feeds.rt`: a device is fed, and the packet that it is to answer next
 //! - `inventory.rt`: what handles haven't finished, part by part
+//! - `standing.rt`: how an endpoint stands, and a transfer in its line
 //! - `reads.rt`: what can be asked without a step; the controller, with its rings; the devices handed back
 //!   (`into_setup`)
-//! - specs/ Steps, Bursts, Runs, Reads, Inventory: what comes of a step and its payload; of steps in a row; the laws
-//!   of a run, together; what can be asked of a world; what handles haven't finished in it
+//! - specs/ Steps, Bursts, Runs, Reads, Inventory, Standing: what comes of a step and its payload; of steps in a row; the laws
+//!   of a run, together; what can be asked of a world; what handles haven't finished in it; how an endpoint stands
 //!
 //! # Contracts
 //!
@@ -128,6 +130,9 @@
 //! - `Core::line_len`, `number_at`: of an endpoint that is held: its line, and the number at each place of it
 //! - `Core::is_halted`, `answers_left`, of devices that tell how far they are (`Scripted`): of an endpoint that is held:
 //!   whether it is halted, at its device or at the controller; how many answers its device has left
+//! - `Core::state_at`, `errand_at`, `in_line`, `is_halted_at_device`: of an endpoint that is held: its state at the controller, the errand
+//!   that is under way, the transfer at each place of its line with the bytes that it read, and whether its device has it halted
+//! - `Core::callback`, `is_gone`: a handle's transfer that is in its callback; whether a device was unplugged
 //! - `run`: at Ok the entries are `world_run` of the setup and the steps; at Err those of `Stopped` are the entries
 //!   of the first so many steps, as many as there are entries, and a step is left, or no entry is there. Every run
 //!   obeys `runs::cut`, `places` and `asked_ends` of `proof_laws`. At Ok, and at Err for the steps so far where there is an entry,
@@ -169,11 +174,13 @@ mod scripted;
 mod sender;
 mod settlement;
 mod setup;
+mod standing;
 mod step;
 mod step_bursts;
 mod step_feeds;
 mod step_inventory;
 mod step_reads;
+mod step_standing;
 mod stored;
 mod submission;
 mod verdicts;
@@ -192,5 +199,6 @@ pub use scripted::scripted_setup;
 pub use setup::{AddError, Setup};
 pub use step::{NoMemory, Stepped};
 pub use step_bursts::{Burst, Whole};
+pub use step_standing::InLine;
 pub use stored::{Once, Repeat, StoredCallback, Told};
 pub use submission::SubmitError;

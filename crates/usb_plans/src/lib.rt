@@ -30,7 +30,7 @@
 //! - `PlanRun::into_setup`: the devices that are handed back are those over which the run showed its stages: a core
 //!   or a run that is made of them begins anew. Each endpoint that a device has stands as the stage's world has it,
 //!   as by `Core::into_setup`
-//! - `PlanRun::into_core`: the core shows the worlds of the stages that the run showed
+//! - `PlanRun::core`, `into_core`: the core, lent or handed back, shows the worlds of the stages that the run showed
 //! - `drive`: the entries of a plan are the run of steps that it may stand for under its callbacks' rules
 //!   (`Expands`); of the only ones, `expand`, where no rule is Free. Of these steps all laws hold: what each handle
 //!   sees is what it sees alone, each transfer is called back at most once, after its number, in order; the cut, the

@@ -14,6 +14,13 @@ use usb_device::Device;
 use usb_model::{DeviceNo, EpAddr};
 
 impl<C: Callback, D: Device> PlanRun<C, D> {
+    /// The core, to be asked amid the plan.
+    pub fn core(&self) -> &Core<C, D>
+        ensures { (setup : ModelSetup) (s : Stage) → ShowsStage C.rule setup self.now s → ShowsWorld setup result.now s.world }
+    {
+        &self.core
+    }
+
     /// The packet of index `i`, from 0 on, of those that a device took at one of its endpoints, held or not, since it
     /// was made new; None past the last.
     pub fn taken(&self, dev: DeviceNo, ep: EpAddr, i: usize) -> Option<&[u8]>

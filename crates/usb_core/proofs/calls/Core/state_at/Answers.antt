@@ -1,0 +1,7 @@
+use Rattle.std.proofs.Common.{subst, sym, ◌∙◌}
+use Rattle.refine_core.specs.State.{ShowsWorld, State}
+use Rattle.usb_core.proofs.EndpointReads.{state_shown}
+use Rattle.usb_core.proofs.calls.Core.state_at.Goals as goal
+
+pub returns : goal.returns
+returns g c = λ setup w h shown held. c.state_at.ensures ∙ state_shown setup c.self.inside.parts w (subst (λ (s : State g.row.P.Denot). ShowsWorld setup s w) (sym c.self.view_is) shown) h c.args.dev c.args.ep held
