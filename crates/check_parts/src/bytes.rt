@@ -8,6 +8,7 @@ mod long;
 mod pattern;
 mod scene;
 mod short;
+mod standing;
 
 use anyhow::Result;
 use scene::Scene;
@@ -26,6 +27,9 @@ pub fn play(rt: &HostRuntime) -> Result<()> {
         show(rt, scene)?;
     }
     for scene in long::SCENES {
+        show(rt, scene)?;
+    }
+    for scene in standing::SCENES {
         show(rt, scene)?;
     }
     Ok(())

@@ -7,7 +7,7 @@
 //! - `trbs.rt`, `configurations.rt`, `faults.rt`, `devices.rt`, `events.rt`, `callbacks.rt`, `log.rt`, `captures.rt`:
 //!   the scenes
 //! - `bytes.rt`, with its folder: the core's rings, byte by byte: short transfers and errands (`short.rt`), transfers over several TRBs
-//!   (`long.rt`); how a scene is played (`scene.rt`), and whether what is found fits a line (`pattern.rt`); the core with what can be asked
+//!   (`long.rt`); what can be asked of it between two steps (`standing.rt`); how a scene is played (`scene.rt`), and whether what is found fits a line (`pattern.rt`); the core with what can be asked
 //!   of its rings (`host.rt`), what was found, in words (`found.rt`), and the device (`device.rt`)
 //! - `relay.rt`, `changed.rt`: a device that hands its calls on; a configuration with a byte changed
 //! - `expect.rt`: an error that says what isn't as it has to be

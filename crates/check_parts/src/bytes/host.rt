@@ -74,7 +74,8 @@ impl Host {
     /// Does what a line says, and gives what is told of it, or found: a line of a scenario, `zeros H EP N` for a write of so
     /// many zeros with an empty packet behind them, or a look that changes nothing. A look is `transfer EP INDEX`, `order INDEX`
     /// or `event INDEX` for a TRB in memory, `enqueue EP` for the place of the next TRB, `taken EP` for the packets that the
-    /// device took. An error where a line is none of these, or nothing is there.
+    /// device took; `stands EP` for how an endpoint stands, `line EP INDEX` for the transfer at a place of its line, `callback H N` for
+    /// one in its callback, and `plug` for whether the device is there. An error where a line is none of these, or nothing is there.
     pub fn answer(&mut self, line: &str) -> Result<String> {
         let words: Vec<&str> = line.split(' ').collect(self.alloc)?;
         if let Some(found) = self.look(words.as_slice()) {
@@ -94,9 +95,16 @@ impl Host {
                 "event" => self.event(at),
                 "enqueue" => self.enqueue(at),
                 "taken" => self.taken(at),
+                "stands" => self.standing(at),
                 _ => None,
             },
-            [what, ep, at] if *what == "transfer" => self.transfer(ep, at),
+            [what, of, at] => match *what {
+                "transfer" => self.transfer(of, at),
+                "line" => self.in_line(of, at),
+                "callback" => self.in_callback(of, at),
+                _ => None,
+            },
+            [what] if *what == "plug" => Some(Found::IsGone(self.core.is_gone(self.dev))),
             _ => None,
         }
     }
@@ -141,6 +149,39 @@ impl Host {
             }
         }
         Some(Found::Taken { packets, bytes })
+    }
+
+    /// How an endpoint stands.
+    fn standing(&self, ep: &str) -> Option<Found> {
+        let ep = address(ep).ok()?;
+        Some(Found::Standing {
+            state: self.core.state_at(self.dev, ep),
+            errand: self.core.errand_at(self.dev, ep),
+            is_halted: self.core.is_halted_at_device(self.dev, ep),
+        })
+    }
+
+    /// The transfer at a place of an endpoint's line.
+    fn in_line(&self, ep: &str, at: &str) -> Option<Found> {
+        let (ep, at) = (address(ep).ok()?, index(at)?);
+        let Some(transfer) = self.core.in_line(self.dev, ep, at) else {
+            return Some(Found::Nothing);
+        };
+        Some(Found::InLine {
+            n: transfer.n,
+            length: transfer.request.body.length(),
+            read: transfer.read.len(),
+            ask: transfer.ask,
+        })
+    }
+
+    /// A handle's transfer in its callback.
+    fn in_callback(&self, h: &str, n: &str) -> Option<Found> {
+        let (h, n) = (handle(h).ok()?, u64::from(decimal_u32(n)?));
+        match self.core.callback(h, n) {
+            Some(callback) => Some(Found::InCallback(callback.request.ep.address())),
+            None => Some(Found::Nothing),
+        }
     }
 
     /// The step that a line says.
