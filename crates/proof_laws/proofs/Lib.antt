@@ -1,7 +1,7 @@
 pub mod Computed
 mod WorkedRows
 mod AskedForDues
-mod CutPackets
+pub mod CutPackets
 mod EndedShares
 mod ListedNumbers
 mod LivesInLines

@@ -1,5 +1,5 @@
 -- How a read ends, by the number of its full packets.
-use Rattle.std.proofs.Common.{◌≡◌, ℕ, ◌+◌, ◌-◌, ◌*◌, ◌/◌, ◌<◌, ◌≤◌, ◌==◌, nat_lt, zero, suc, Bool, true, false, List, [], ◌∷◌, ◌++◌, length, drop, Option, Some, None, refl, sym, ap, ◌∙◌, arith, length-append}
+use Rattle.std.proofs.Common.{◌≡◌, ℕ, ◌+◌, ◌-◌, ◌*◌, ◌/◌, ◌<◌, ◌≤◌, ◌==◌, nat_lt, zero, suc, Bool, true, false, List, [], ◌∷◌, ◌++◌, length, drop, Some, None, refl, sym, ap, ◌∙◌, arith, length-append}
 use Rattle.std.specs.Prelude.{if◌then◌else◌, min}
 use Rattle.std.specs.List.{concat}
 use Rattle.std.specs.Option.{option_and_then}
@@ -66,7 +66,7 @@ front_full {size} {most} {ys = ys} {count = count} f full =
     front_ends f (rw none refl)
 
 -- full packets have as many bytes as their number says
-front_bytes : (size most : ℕ) (xs : List Response) → length (concat (full_front size most xs)) ≡ length (full_front size most xs) * size
+pub front_bytes : (size most : ℕ) (xs : List Response) → length (concat (full_front size most xs)) ≡ length (full_front size most xs) * size
 front_bytes size zero xs = omega arith
 front_bytes size (suc most) [] = omega arith
 front_bytes size (suc most) (response.Data b ∷ xs) = by_test (front_bytes size most xs) (length b == size) refl
@@ -77,7 +77,7 @@ front_bytes size (suc most) (response.Data b ∷ xs) = by_test (front_bytes size
 front_bytes size (suc most) (_ ∷ xs) = omega arith
 
 -- a packet more has its bytes more
-one_packet_more : (front : List (List ℕ)) (b : List ℕ) → length (concat (front ++ b ∷ [])) ≡ length (concat front) + length b
+pub one_packet_more : (front : List (List ℕ)) (b : List ℕ) → length (concat (front ++ b ∷ [])) ≡ length (concat front) + length b
 one_packet_more [] b = rw length-append (omega arith)
 one_packet_more (x ∷ front) b = let rest = one_packet_more front b in rw (length-append x (concat (front ++ b ∷ [])), length-append x (concat front)) (omega (arith, rest))
 

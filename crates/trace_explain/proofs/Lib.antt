@@ -13,6 +13,8 @@ mod Told
 mod Unquiet
 mod Truths
 mod TrueCalls
+mod OwnCalls
 mod TrueReasons
+mod TrueEnds
 mod TrueTurns
 mod Explains

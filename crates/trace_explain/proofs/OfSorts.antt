@@ -5,7 +5,7 @@ use Rattle.usb_model.specs.declared.endpoint.EndpointState.{EndpointState}
 use Rattle.usb_model.specs.declared.refused.Refused.{Refused}
 use Rattle.usb_model.specs.declared.status.Status.{Status}
 use Rattle.trace_explain.specs.declared.sentence.CalledWith.{CalledWith}
-use Rattle.trace_explain.specs.declared.sentence.Ending.{Ending}
+use Rattle.trace_explain.specs.declared.sentence.TransferEnd.{TransferEnd}
 use Rattle.trace_explain.specs.declared.sentence.Idleness.{Idleness}
 use Rattle.trace_explain.specs.declared.sentence.Reason.{Reason}
 use Rattle.trace_explain.specs.declared.sentence.Reason.TheVariants as reason
@@ -42,7 +42,7 @@ of_no_packet (Some (reason.Ended x)) e = absurd cc
 of_no_packet (Some (reason.Failed ep state)) e = absurd cc
 of_no_packet (Some (reason.Called x)) e = absurd cc
 
-pub of_end : (o : Option Reason) (code : ℕ) → sort_of o ≡ End code → (x : Ending) × (o ≡ Some (reason.Ended x)) × (code_of x ≡ code)
+pub of_end : (o : Option Reason) (code : ℕ) → sort_of o ≡ End code → (x : TransferEnd) × (o ≡ Some (reason.Ended x)) × (code_of x ≡ code)
 of_end None code e = absurd cc
 of_end (Some (reason.Refused x)) code e = absurd cc
 of_end (Some (reason.UnplugRefused x)) code e = absurd cc

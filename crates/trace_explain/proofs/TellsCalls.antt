@@ -1,8 +1,8 @@
 -- Open, close, claim, release and reset: the reason told is of the reply's sort.
-use Rattle.std.proofs.Common.{◌≡◌, ℕ, ◌==◌, Bool, true, false, not, ◌||◌, List, [], ◌∷◌, Option, Some, None, is_some, refl, ◌∙◌, cond}
+use Rattle.std.proofs.Common.{◌≡◌, ℕ, ◌==◌, Bool, true, false, not, ◌||◌, List, [], ◌∷◌, Option, Some, None, refl, cond}
 use Rattle.std.specs.Prelude.{if◌then◌else◌}
 use Rattle.std.specs.List.{find, list_any}
-use Rattle.usb_model.specs.declared.effect.Change.TheVariants.{Frees, Gains, Keeps, Drops, Renews}
+use Rattle.usb_model.specs.declared.effect.Change.TheVariants.{Gains, Keeps}
 use Rattle.usb_model.specs.declared.handle.Handle.{Handle}
 use Rattle.usb_model.specs.declared.refusal.Missing.TheVariants as missing
 use Rattle.usb_model.specs.declared.refusal.Refusal.{Refusal}

@@ -1,5 +1,5 @@
 -- What a device answers: the reason told is of the reply's sort, and an end's of its completion code.
-use Rattle.std.proofs.Common.{◌≡◌, ℕ, ◌+◌, ◌-◌, ◌*◌, ◌==◌, nat_lt, Bool, true, false, not, List, [], ◌∷◌, ◌++◌, length, take, drop, Option, Some, None, refl, sym, ap, ◌∙◌}
+use Rattle.std.proofs.Common.{◌≡◌, ℕ, ◌+◌, ◌-◌, ◌*◌, ◌==◌, nat_lt, Bool, true, false, List, [], ◌∷◌, ◌++◌, length, take, drop, Option, Some, None, refl, ap, ◌∙◌}
 use Rattle.std.specs.Prelude.{if◌then◌else◌, min}
 use Rattle.std.specs.Option.{option_and_then, option_map, unwrap_or}
 use Rattle.usb_model.specs.declared.endpoint.Endpoint.{Endpoint}
@@ -19,7 +19,7 @@ use Rattle.usb_model.specs.Endpoint.Packets.{acks, count_of, ended_with, front_o
 use Rattle.usb_model.specs.Endpoint.Serve.{is_no_packet, next_answer, serve, serve_by, serve_first, serve_gone}
 use Rattle.trace_explain.specs.declared.ends.End.{End}
 use Rattle.trace_explain.specs.declared.ends.End.TheVariants.{Whole, Short, Stall, Broken, Babble}
-use Rattle.trace_explain.specs.declared.sentence.Ending.TheVariants as ending
+use Rattle.trace_explain.specs.declared.sentence.TransferEnd.TheVariants as ending
 use Rattle.trace_explain.specs.declared.sentence.Reason.TheVariants.{Nak}
 use Rattle.trace_explain.specs.Endings.{answer_end, answer_reason, end_by, end_of, ending_of, unready_by}
 use Rattle.trace_explain.specs.Turns.{first_reason}

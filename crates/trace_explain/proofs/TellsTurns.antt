@@ -1,7 +1,6 @@
 -- Every step: the reason told is of the reply's sort.
-use Rattle.std.proofs.Common.{◌≡◌, ℕ, ◌==◌, Bool, true, false, List, [], ◌∷◌, map, Option, Some, None, refl, sym, ap, ◌∙◌}
+use Rattle.std.proofs.Common.{◌≡◌, ℕ, Bool, true, false, List, [], ◌∷◌, map, Option, Some, None, refl, sym, ap, ◌∙◌}
 use Rattle.std.specs.Prelude.{if◌then◌else◌}
-use Rattle.std.proofs.lemmas.Bool.{eq-eqb}
 use Rattle.usb_model.specs.declared.endpoint.Endpoint.{Endpoint}
 use Rattle.usb_model.specs.declared.endpoint.EndpointState.{EndpointState}
 use Rattle.usb_model.specs.declared.endpoint.EndpointState.TheVariants.{Running, Stopped, Halted}
@@ -27,6 +26,7 @@ use Rattle.usb_model.specs.Machine.{Machine, at_endpoint, endpoint_at}
 use Rattle.usb_model.specs.Machine.Turns.{command_effect, command_order, deliver_effect, deliver_news, effect, serve_effect, take_effect}
 use Rattle.usb_model.specs.World.{World, Turn, holder, is_blocked, machine_of, turn, turn_by, turn_of, turn_of_nobody, world_after}
 use Rattle.usb_model.specs.World.Shared.{first_name, pieces_of}
+use Rattle.proof_model.proofs.Lists.Pieces.{same_name}
 use Rattle.trace_explain.specs.Reasons.{reason_of}
 use Rattle.trace_explain.specs.Sorts.{Nothing, sort_of, sort_of_reply}
 use Rattle.trace_explain.specs.Turns.{command_reason, deliver_reason, errand_reason, held_reason, news_reason, order_reason, serve_reason, serve_reason_by, take_reason}
@@ -51,9 +51,6 @@ of_name setup h w step =
 sort_of_name : (setup : Setup) (h : ℕ) (w : World) (step : Step) → sort_of_reply (replied setup h w (effect setup h (machine_of setup h w) step)) ≡ sort_of_reply (turn_of setup h w step).entry.reply
 sort_of_name setup h w step = ap sort_of_reply (sym (of_name setup h w step))
 
-itself : (h : ℕ) → (h == h) ≡ true
-itself h = eq-eqb h h refl
-
 -- a device answers one packet
 serve_told : (setup : Setup) (w : World) (dev ep : ℕ) → sort_of (serve_reason setup w dev ep) ≡ sort_of_reply (turn_by setup (holder setup w.claims dev ep) w (Serve dev ep)).entry.reply
 unfolding serve_reason held_reason turn_of_nobody effect serve_effect at_endpoint machine_of is_blocked
@@ -62,14 +59,14 @@ serve_told setup w dev ep = by_holder (holder setup w.claims dev ep) refl
     by_holder : (o : Option ℕ) → holder setup w.claims dev ep ≡ o → sort_of (serve_reason_by setup w dev ep o) ≡ sort_of_reply (turn_by setup o w (Serve dev ep)).entry.reply
     by_holder None e = refl
     by_holder (Some h) e =
-        let there : (machine_of setup h w).endpoints dev ep ≡ Some (w.endpoints dev ep) = rw (e, itself h) refl in
+        let there : (machine_of setup h w).endpoints dev ep ≡ Some (w.endpoints dev ep) = rw (e, same_name h) refl in
         served_told (packet_size_of setup dev ep) dev ep (w.gone dev) (w.endpoints dev ep)
         ∙ ap (λ o. sort_of_reply (replied setup h w (serve_effect setup (machine_of setup h w) dev ep o))) (sym there)
         ∙ sort_of_name setup h w (Serve dev ep)
 
 -- the first of all pieces is the first of its name's own
 own_first : {A : Type 0} (x : Tagged A) (xs : List (Tagged A)) → pieces_of x.name (x ∷ xs) ≡ x.piece ∷ pieces_of x.name xs
-own_first x xs = rw (itself x.name) refl
+own_first x xs = rw (same_name x.name) refl
 
 -- an order, at the endpoint where it is carried out
 errand_told : (size ep : ℕ) (e : Endpoint) (kind : Errand) (state : EndpointState) → sort_of (errand_reason ep kind state) ≡ sort_of_reply (command size ep e kind state).reply

@@ -30,16 +30,19 @@ use Rattle.trace_explain.specs.declared.sentence.Reason.TheVariants.{Nak, Refuse
 use Rattle.trace_explain.specs.Endpoints.{listed_of}
 use Rattle.trace_explain.specs.Reasons.{reason_of, refusal_told, unplug_reason}
 use Rattle.trace_explain.specs.Truth.{IsTrue, Says, caller_of, request_in}
+use Rattle.trace_explain.specs.Own.{IsOwn}
+use Rattle.trace_explain.proofs.OwnCalls.{answer_own, cancel_own, claim_own, clear_own, close_own, expire_own, open_own, release_own, reset_own, submit_own}
 use Rattle.trace_explain.proofs.TrueCalls.{answer_true, ask_true, claim_true, clear_true, close_true, open_true, release_true, reset_true, submit_true}
 
 -- of a handle's call, where what refuses it is true
 told_true : (setup : Setup) (w : World) (step : Step) (h : ℕ) (o : Option Refusal) → caller_of step ≡ Some h
     → ((r : Refusal) → o ≡ Some r → Says setup h (machine_of setup h w) w.claims (request_in (machine_of setup h w) step) r)
+    → ((r : Refusal) → o ≡ Some r → IsOwn setup (machine_of setup h w) step (request_in (machine_of setup h w) step) r)
     → (x : CallRefusal) → refusal_told setup h (machine_of setup h w) o ≡ Some (Refused x) → IsTrue setup w step x
 unfolding machine_of
-told_true setup w step h None whose says x e = absurd cc
-told_true setup w step h (Some r) whose says x e =
-    subst (IsTrue setup w step) same (record { whose = whose; endpoints = refl; refusal = says r refl })
+told_true setup w step h None whose says own x e = absurd cc
+told_true setup w step h (Some r) whose says own x e =
+    subst (IsTrue setup w step) same (record { whose = whose; endpoints = refl; refusal = says r refl; own = own r refl })
   where
     call_of : Reason → CallRefusal
     call_of (Refused y) = y
@@ -130,18 +133,18 @@ unplug_never true false dev = refl
 
 pub reasons_true : (setup : Setup) (w : World) (step : Step) (x : CallRefusal) → reason_of setup w step ≡ Some (Refused x) → IsTrue setup w step x
 unfolding reason_of
-reasons_true setup w (Open h dev) x e = told_true setup w (Open h dev) h _ refl (open_true setup h (machine_of setup h w) w.claims None dev) x e
-reasons_true setup w (Close h) x e = told_true setup w (Close h) h _ refl (close_true setup h (machine_of setup h w) w.claims None) x e
-reasons_true setup w (Claim h i) x e = told_true setup w (Claim h i) h _ refl (claim_true setup h (machine_of setup h w) w.claims None i) x e
-reasons_true setup w (Release h i) x e = told_true setup w (Release h i) h _ refl (release_true setup h (machine_of setup h w) w.claims None i) x e
-reasons_true setup w (Reset h) x e = told_true setup w (Reset h) h _ refl (reset_true setup h (machine_of setup h w) w.claims None) x e
-reasons_true setup w (ClearHalt h ep) x e = told_true setup w (ClearHalt h ep) h _ refl (clear_true setup h (machine_of setup h w) w.claims None ep) x e
-reasons_true setup w (Submit h request) x e = told_true setup w (Submit h request) h _ refl (submit_true setup h (machine_of setup h w) w.claims request) x e
-reasons_true setup w (Cancel h n) x e = told_true setup w (Cancel h n) h _ refl (ask_true setup h (machine_of setup h w) w.claims None n false) x e
-reasons_true setup w (Expire h n) x e = told_true setup w (Expire h n) h _ refl (ask_true setup h (machine_of setup h w) w.claims None n true) x e
+reasons_true setup w (Open h dev) x e = told_true setup w (Open h dev) h _ refl (open_true setup h (machine_of setup h w) w.claims None dev) (open_own setup h (machine_of setup h w) dev) x e
+reasons_true setup w (Close h) x e = told_true setup w (Close h) h _ refl (close_true setup h (machine_of setup h w) w.claims None) (close_own setup h (machine_of setup h w)) x e
+reasons_true setup w (Claim h i) x e = told_true setup w (Claim h i) h _ refl (claim_true setup h (machine_of setup h w) w.claims None i) (claim_own setup h (machine_of setup h w) w.claims i) x e
+reasons_true setup w (Release h i) x e = told_true setup w (Release h i) h _ refl (release_true setup h (machine_of setup h w) w.claims None i) (release_own setup h (machine_of setup h w) i) x e
+reasons_true setup w (Reset h) x e = told_true setup w (Reset h) h _ refl (reset_true setup h (machine_of setup h w) w.claims None) (reset_own setup h (machine_of setup h w) w.claims) x e
+reasons_true setup w (ClearHalt h ep) x e = told_true setup w (ClearHalt h ep) h _ refl (clear_true setup h (machine_of setup h w) w.claims None ep) (clear_own setup h (machine_of setup h w) ep) x e
+reasons_true setup w (Submit h request) x e = told_true setup w (Submit h request) h _ refl (submit_true setup h (machine_of setup h w) w.claims request) (submit_own setup h (machine_of setup h w) request) x e
+reasons_true setup w (Cancel h n) x e = told_true setup w (Cancel h n) h _ refl (ask_true setup h (machine_of setup h w) w.claims None n false) (cancel_own setup h (machine_of setup h w) n) x e
+reasons_true setup w (Expire h n) x e = told_true setup w (Expire h n) h _ refl (ask_true setup h (machine_of setup h w) w.claims None n true) (expire_own setup h (machine_of setup h w) n) x e
 reasons_true setup w (Serve dev ep) x e = never (serve_reason setup w dev ep) x (serve_never setup w dev ep) e
 reasons_true setup w Command x e = never (command_reason setup w w.orders) x (command_never setup w w.orders) e
 reasons_true setup w Deliver x e = never (deliver_reason setup w w.news) x (deliver_never setup w w.news) e
 reasons_true setup w Take x e = never (take_reason w.results) x (take_never w.results) e
-reasons_true setup w (Answer h n verdict) x e = told_true setup w (Answer h n verdict) h _ refl (answer_true setup h (machine_of setup h w) w.claims n verdict) x e
+reasons_true setup w (Answer h n verdict) x e = told_true setup w (Answer h n verdict) h _ refl (answer_true setup h (machine_of setup h w) w.claims n verdict) (answer_own setup h (machine_of setup h w) n verdict) x e
 reasons_true setup w (Unplug dev) x e = never (unplug_reason (is_device setup dev) (w.gone dev) dev) x (unplug_never (is_device setup dev) (w.gone dev) dev) e

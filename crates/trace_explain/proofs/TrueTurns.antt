@@ -1,5 +1,5 @@
 -- What is told of the steps of device, controller and event loop is true.
-use Rattle.std.proofs.Common.{◌≡◌, ℕ, Bool, true, false, List, [], ◌∷◌, take, Option, Some, None, refl, sym, ap, subst}
+use Rattle.std.proofs.Common.{◌≡◌, ℕ, Bool, true, false, List, [], ◌∷◌, ◌++◌, take, Option, Some, None, refl, sym, ap, subst}
 use Rattle.std.specs.Prelude.{IfSome, is_some, if◌then◌else◌}
 use Rattle.std.specs.Option.{option_map}
 use Rattle.usb_model.specs.declared.endpoint.Endpoint.{Endpoint}
@@ -18,16 +18,20 @@ use Rattle.usb_model.specs.declared.shared.Tagged.{Tagged}
 use Rattle.usb_model.specs.declared.step.Step.{Step}
 use Rattle.usb_model.specs.declared.step.Step.TheVariants.{Open, Close, Claim, Release, Reset, ClearHalt, Submit, Cancel, Expire, Serve, Command, Deliver, Take, Answer, Unplug}
 use Rattle.usb_model.specs.Endpoint.{first_waiting}
+use Rattle.usb_model.specs.Endpoint.Serve.{next_answer}
 use Rattle.usb_model.specs.Machine.{Machine, endpoint_at}
 use Rattle.usb_model.specs.Setup.{Setup, interface_of, is_device, packet_size_of}
 use Rattle.usb_model.specs.World.{World, holder, machine_of}
 use Rattle.trace_explain.specs.declared.ends.End.{End}
+use Rattle.trace_explain.specs.declared.ends.End.TheVariants.{Babble, Broken, Short, Stall, Whole}
+use Rattle.trace_explain.specs.declared.sentence.TransferEnd.TheVariants as ending
 use Rattle.trace_explain.specs.declared.sentence.Reason.{Reason}
 use Rattle.trace_explain.specs.declared.sentence.Reason.TheVariants as reason
-use Rattle.trace_explain.specs.Endings.{answer_end, answer_reason, unready_by}
+use Rattle.trace_explain.specs.Endings.{answer_end, answer_reason, ending_of, unready_by}
 use Rattle.trace_explain.specs.Reasons.{reason_of, refusal_told, unplug_reason}
-use Rattle.trace_explain.specs.Truth.{FailedIs, IdleIs, ReasonIs}
+use Rattle.trace_explain.specs.Truth.{EndedIs, EndingBy, EndsThere, FailedIs, IdleIs, ReasonIs, ending_ep}
 use Rattle.trace_explain.specs.Turns.{command_reason, deliver_reason, errand_reason, first_reason, held_reason, news_reason, order_reason, serve_reason, serve_reason_by, take_reason, unheld}
+use Rattle.trace_explain.proofs.TrueEnds.{ends_true}
 
 -- what a reason says holds, where there is one
 abbrev pub Holds : Setup → World → Step → Option Reason → Type 0
@@ -51,18 +55,36 @@ module _ (setup : Setup) (w : World) where
   unready_holds dev ep false ready (response.Stall ∷ rest) left = tt
   unready_holds dev ep false ready (response.Broken ∷ rest) left = tt
 
-  answer_holds : (dev ep : ℕ) (x : Item) (o : Option End) → Holds setup w (Serve dev ep) (answer_reason ep (w.endpoints dev ep) x o)
-  answer_holds dev ep x (Some end) = tt
-  answer_holds dev ep x None = unready_holds dev ep (w.endpoints dev ep).device_halted refl (w.endpoints dev ep).script_left refl
+  there_so : (dev ep : ℕ) (x : Item) → first_waiting (w.endpoints dev ep).line ≡ Some x → (end : End) → answer_end (packet_size_of setup dev ep) (w.endpoints dev ep) x ≡ Some end
+      → ending_ep ep (ending_of ep (w.endpoints dev ep) x end) ≡ ep → EndsThere setup w (Serve dev ep) (ending_of ep (w.endpoints dev ep) x end)
+  there_so dev ep x there end is named = record { dev = dev; ep = ep; served = refl; named = named; item = x; first = there; says = ends_true (packet_size_of setup dev ep) ep (w.endpoints dev ep) x end is }
+
+  -- how the first transfer that waits ended
+  end_holds : (dev ep : ℕ) (x : Item) → first_waiting (w.endpoints dev ep).line ≡ Some x → (end : End) → answer_end (packet_size_of setup dev ep) (w.endpoints dev ep) x ≡ Some end
+      → EndedIs setup w (Serve dev ep) (ending_of ep (w.endpoints dev ep) x end)
+  end_holds dev ep x there Whole is = there_so dev ep x there Whole is refl
+  end_holds dev ep x there (Short moved) is = there_so dev ep x there (Short moved) is refl
+  end_holds dev ep x there Stall is = by_halted (w.endpoints dev ep).device_halted (ends_true (packet_size_of setup dev ep) ep (w.endpoints dev ep) x Stall is)
+    where
+      by_halted : (b : Bool) → EndingBy x.request (packet_size_of setup dev ep) (x.share ++ next_answer (w.endpoints dev ep)) (w.endpoints dev ep).device_halted (if b then ending.Halted ep else ending.Stall ep)
+          → EndedIs setup w (Serve dev ep) (if b then ending.Halted ep else ending.Stall ep)
+      by_halted true says = record { dev = dev; ep = ep; served = refl; named = refl; item = x; first = there; says = says }
+      by_halted false says = record { dev = dev; ep = ep; served = refl; named = refl; item = x; first = there; says = says }
+  end_holds dev ep x there Broken is = there_so dev ep x there Broken is refl
+  end_holds dev ep x there Babble is = there_so dev ep x there Babble is refl
+
+  answer_holds : (dev ep : ℕ) (x : Item) → first_waiting (w.endpoints dev ep).line ≡ Some x → (o : Option End) → answer_end (packet_size_of setup dev ep) (w.endpoints dev ep) x ≡ o → Holds setup w (Serve dev ep) (answer_reason ep (w.endpoints dev ep) x o)
+  answer_holds dev ep x there (Some end) is = end_holds dev ep x there end is
+  answer_holds dev ep x there None is = unready_holds dev ep (w.endpoints dev ep).device_halted refl (w.endpoints dev ep).script_left refl
 
   -- a device that is asked
-  served_holds : (size dev ep : ℕ) (gone : Bool) (state : EndpointState) → (w.endpoints dev ep).state ≡ state → (o : Option Item) → first_waiting (w.endpoints dev ep).line ≡ o
-      → Holds setup w (Serve dev ep) (first_reason size dev ep gone (w.endpoints dev ep) state o)
-  served_holds size dev ep gone Running stands None none = (dev, refl, none)
-  served_holds size dev ep true Running stands (Some x) there = tt
-  served_holds size dev ep false Running stands (Some x) there = answer_holds dev ep x (answer_end size (w.endpoints dev ep) x)
-  served_holds size dev ep gone Stopped stands o there = (dev, refl, stands, λ q. cc)
-  served_holds size dev ep gone Halted stands o there = (dev, refl, stands, λ q. cc)
+  served_holds : (dev ep : ℕ) (gone : Bool) → w.gone dev ≡ gone → (state : EndpointState) → (w.endpoints dev ep).state ≡ state → (o : Option Item) → first_waiting (w.endpoints dev ep).line ≡ o
+      → Holds setup w (Serve dev ep) (first_reason (packet_size_of setup dev ep) dev ep gone (w.endpoints dev ep) state o)
+  served_holds dev ep gone is Running stands None none = (dev, refl, none)
+  served_holds dev ep true is Running stands (Some x) there = (ep, refl, is)
+  served_holds dev ep false is Running stands (Some x) there = answer_holds dev ep x there (answer_end (packet_size_of setup dev ep) (w.endpoints dev ep) x) refl
+  served_holds dev ep gone is Stopped stands o there = (dev, refl, stands, λ q. cc)
+  served_holds dev ep gone is Halted stands o there = (dev, refl, stands, λ q. cc)
 
   -- where nobody holds the endpoint
   unheld_holds : (dev ep : ℕ) → holder setup w.claims dev ep ≡ None → (b : Bool) → is_device setup dev ≡ b → (o : Option ℕ) → interface_of setup dev ep ≡ o → IdleIs setup w (Serve dev ep) (unheld setup dev ep b o)
@@ -76,7 +98,7 @@ module _ (setup : Setup) (w : World) where
     where
       by_holder : (o : Option ℕ) → holder setup w.claims dev ep ≡ o → Holds setup w (Serve dev ep) (serve_reason_by setup w dev ep o)
       by_holder None none = unheld_holds dev ep none (is_device setup dev) refl (interface_of setup dev ep) refl
-      by_holder (Some h) its = served_holds (packet_size_of setup dev ep) dev ep (w.gone dev) (w.endpoints dev ep).state refl (first_waiting (w.endpoints dev ep).line) refl
+      by_holder (Some h) its = served_holds dev ep (w.gone dev) refl (w.endpoints dev ep).state refl (first_waiting (w.endpoints dev ep).line) refl
 
   -- an order that fails, or is of an endpoint that is its handle's no more
   order_holds : (x : Tagged Order) (xs : List (Tagged Order)) → w.orders ≡ x ∷ xs → (o : Option Endpoint) → endpoint_at (machine_of setup x.name w) x.piece.ep ≡ o → Holds setup w Command (order_reason x.name x.piece o)
@@ -116,7 +138,7 @@ module _ (setup : Setup) (w : World) where
   take_holds : (results : List (Tagged TransferResult)) → w.results ≡ results → Holds setup w Take (take_reason results)
   unfolding take_reason
   take_holds [] none = none
-  take_holds (x ∷ xs) there = record { result = x; rest = xs; first = there; status = refl; moved = refl; bytes = refl }
+  take_holds (x ∷ xs) there = record { result = x; rest = xs; first = there; status = refl; moved = refl; bytes = refl; short_not_ok = refl }
 
   unplug_holds : (dev : ℕ) (exists : Bool) → is_device setup dev ≡ exists → (gone : Bool) → w.gone dev ≡ gone → Holds setup w (Unplug dev) (unplug_reason exists gone dev)
   unplug_holds dev false isnt gone q = (refl, isnt)

@@ -3,7 +3,6 @@ use Rattle.std.proofs.Common.{◌≡◌, ℕ, ◌+◌, ◌==◌, ◌&&◌, ◌||
 use Rattle.std.specs.Prelude.{is_some, is_none, if◌then◌else◌}
 use Rattle.std.specs.List.{count_by, find, list_any}
 use Rattle.std.specs.Option.{option_map_or, unwrap_or}
-use Rattle.std.proofs.lemmas.Bool.{eq-eqb}
 use Rattle.std.proofs.lemmas.List.Recursion.{is_count_by}
 use Rattle.std.proofs.lemmas.Option.{same_Some}
 use Rattle.usb_model.specs.declared.endpoint.Endpoint.{Endpoint}
@@ -18,6 +17,7 @@ use Rattle.usb_model.specs.Machine.{Machine, are_quiet, device_of, endpoint_at, 
 use Rattle.usb_model.specs.Machine.Calls.{busy_at, first_in_progress, quiet_facts}
 use Rattle.usb_model.specs.Refusals.{first_reason, in_way}
 use Rattle.usb_model.specs.Setup.{Setup, endpoints_of}
+use Rattle.proof_model.proofs.Lists.Pieces.{same_name}
 use Rattle.trace_explain.specs.Truth.{ObstacleIs}
 use Rattle.trace_explain.proofs.Unquiet.{found_or_quiet, is_unquiet}
 
@@ -51,10 +51,6 @@ pub none_of : (o : Option ℕ) → not (is_some o) ≡ true → o ≡ None
 none_of None e = refl
 none_of (Some x) e = absurd cc
 
--- a number is the same as itself
-same_number : (n : ℕ) → (n == n) ≡ true
-same_number n = eq-eqb n n refl
-
 -- the first in progress is
 live_found : (n : ℕ) (line : List Item) → first_in_progress line ≡ Some n → is_some (in_progress n line) ≡ true
 unfolding first_in_progress in_progress
@@ -68,7 +64,7 @@ live_found n (x ∷ xs) e = by_blank (is_blank x) refl e (λ q. live_found n xs 
     by_blank : (b : Bool) → is_blank x ≡ b → (if b then first_in_progress xs else Some x.n) ≡ Some n → (first_in_progress xs ≡ Some n → is_some (in_progress n xs) ≡ true)
         → is_some (if (x.n == n) && not (is_blank x) then Some x else in_progress n xs) ≡ true
     by_blank true q found rest = rw q (passed (x.n == n) (rest found))
-    by_blank false q found rest = let same : x.n ≡ n = same_Some x.n n found in rw (q, same, same_number n) refl
+    by_blank false q found rest = let same : x.n ≡ n = same_Some x.n n found in rw (q, same, same_name n) refl
 
 -- where none is, one that is withdrawn stands in a line that isn't empty
 blank_found : (line : List Item) → (length line == 0) ≡ false → first_in_progress line ≡ None → list_any is_blank line ≡ true
@@ -114,7 +110,7 @@ found_number {A = A} number test (y ∷ ys) x e = by_test (test y) e (λ q. foun
 
     by_test : (b : Bool) → cond b (Some y) (find test ys) ≡ Some x → (find test ys ≡ Some x → list_any (λ z. (number z == number x) && test z) ys ≡ true)
         → (((number y == number x) && b) || list_any (λ z. (number z == number x) && test z) ys) ≡ true
-    by_test true found rest = let same : y ≡ x = same_Some y x found in rw (same, same_number (number x)) refl
+    by_test true found rest = let same : y ≡ x = same_Some y x found in rw (same, same_name (number x)) refl
     by_test false found rest = passed ((number y == number x) && false) (rest found)
 
 module _ (m : Machine) where
@@ -131,23 +127,6 @@ module _ (m : Machine) where
   busy_true : (ep : ℕ) (e : Endpoint) → endpoint_at m ep ≡ Some e → is_quiet m ep (Some e) ≡ false → ObstacleIs m (busy_at m ep (Some e))
   busy_true ep e there busy = by_line (length e.line == 0) refl (is_some e.errand) refl busy
     where
-      by_callback : (o : Option InCallback) → find (is_callback_at ep) m.handle.in_callbacks ≡ o → list_any (is_callback_at ep) m.handle.in_callbacks ≡ true → ObstacleIs m (option_map_or (λ x. obstacle.Callback x.n ep) o obstacle.Numbers)
-      by_callback (Some x) found any = found_number (λ y. y.n) (is_callback_at ep) m.handle.in_callbacks x found
-      by_callback None found any = absurd (none_found (is_callback_at ep) m.handle.in_callbacks found any)
-        where
-          none_found : {A : Type 0} (test : A → Bool) (xs : List A) → find test xs ≡ None → list_any test xs ≡ true → ⊥
-          none_found test [] f a = cc
-          none_found {A = A} test (x ∷ xs) f a = by_test (test x) f a (λ p q. none_found test xs p q)
-            where
-              by_test : (b : Bool) → cond b (Some x) (find test xs) ≡ None → (b || list_any test xs) ≡ true → (find test xs ≡ None → list_any test xs ≡ true → ⊥) → ⊥
-              by_test true p q rest = cc
-              by_test false p q rest = rest p q
-
-      any_left : (b c : Bool) → (not b && not c) ≡ false → b ≡ false → c ≡ true
-      any_left true c q none = absurd cc
-      any_left false true q none = refl
-      any_left false false q none = absurd cc
-
       none_any : {A : Type 0} (test : A → Bool) (xs : List A) → find test xs ≡ None → list_any test xs ≡ false
       none_any test [] f = refl
       none_any {A = A} test (x ∷ xs) f = by_test (test x) f (λ p. none_any test xs p)
@@ -155,6 +134,15 @@ module _ (m : Machine) where
           by_test : (b : Bool) → cond b (Some x) (find test xs) ≡ None → (find test xs ≡ None → list_any test xs ≡ false) → (b || list_any test xs) ≡ false
           by_test true p rest = absurd cc
           by_test false p rest = rest p
+
+      by_callback : (o : Option InCallback) → find (is_callback_at ep) m.handle.in_callbacks ≡ o → list_any (is_callback_at ep) m.handle.in_callbacks ≡ true → ObstacleIs m (option_map_or (λ x. obstacle.Callback x.n ep) o obstacle.Numbers)
+      by_callback (Some x) found any = found_number (λ y. y.n) (is_callback_at ep) m.handle.in_callbacks x found
+      by_callback None found any = absurd (let none = none_any (is_callback_at ep) m.handle.in_callbacks found in cc)
+
+      any_left : (b c : Bool) → (not b && not c) ≡ false → b ≡ false → c ≡ true
+      any_left true c q none = absurd cc
+      any_left false true q none = refl
+      any_left false false q none = absurd cc
 
       by_result : (o : Option _) → find (is_result_at ep) m.results ≡ o → (not (list_any (is_result_at ep) m.results) && not (list_any (is_callback_at ep) m.handle.in_callbacks)) ≡ false
           → ObstacleIs m (option_map_or (λ x. obstacle.Result x.n ep) o (option_map_or (λ x. obstacle.Callback x.n ep) (find (is_callback_at ep) m.handle.in_callbacks) obstacle.Numbers))

@@ -10,8 +10,8 @@ use Rattle.usb_model.specs.Requests.{length_of}
 use Rattle.usb_model.specs.declared.outcome.Outcome.{Outcome}
 use Rattle.usb_model.specs.Endpoint.Packets.{outcome, count_of}
 use Rattle.usb_model.specs.Endpoint.Serve.{next_answer}
-use Rattle.trace_explain.specs.declared.sentence.Ending.{Ending}
-use Rattle.trace_explain.specs.declared.sentence.Ending.TheVariants as ending
+use Rattle.trace_explain.specs.declared.sentence.TransferEnd.{TransferEnd}
+use Rattle.trace_explain.specs.declared.sentence.TransferEnd.TheVariants as ending
 use Rattle.trace_explain.specs.declared.sentence.Unready.{Unready}
 use Rattle.trace_explain.specs.declared.sentence.Unready.TheVariants as unready
 use Rattle.trace_explain.specs.declared.sentence.Reason.{Reason}
@@ -44,7 +44,7 @@ unfoldable pub answer_end : ℕ → Endpoint → Item → Option End
 answer_end size e x = option_and_then end_of (outcome x.request size (x.share ++ next_answer e) e.device_halted)
 
 -- in words that name the endpoint
-abbrev pub ending_of : ℕ → Endpoint → Item → End → Ending
+abbrev pub ending_of : ℕ → Endpoint → Item → End → TransferEnd
 ending_of ep e x Whole = ending.Whole (length_of x.request.body)
 ending_of ep e x (Short moved) = ending.Short moved (length_of x.request.body)
 ending_of ep e x Stall = if e.device_halted then ending.Halted ep else ending.Stall ep

@@ -8,6 +8,7 @@ pub mod Ends
 pub mod Turns
 pub mod Reasons
 pub mod Sorts
+pub mod Own
 pub mod Truth
 pub mod Explained
 pub mod Packets

@@ -6,8 +6,8 @@ use Rattle.usb_model.specs.declared.reply.Reply.{Reply}
 use Rattle.usb_model.specs.declared.reply.Reply.TheVariants as reply
 use Rattle.usb_model.specs.declared.status.Status.{Status}
 use Rattle.usb_model.specs.Completion.{success, babble_detected, transaction_error, stall_error, short_packet}
-use Rattle.trace_explain.specs.declared.sentence.Ending.{Ending}
-use Rattle.trace_explain.specs.declared.sentence.Ending.TheVariants as ending
+use Rattle.trace_explain.specs.declared.sentence.TransferEnd.{TransferEnd}
+use Rattle.trace_explain.specs.declared.sentence.TransferEnd.TheVariants as ending
 use Rattle.trace_explain.specs.declared.sentence.Reason.{Reason}
 use Rattle.trace_explain.specs.declared.sentence.Reason.TheVariants as reason
 use Rattle.trace_explain.specs.declared.refusal.UnplugRefusal.{UnplugRefusal}
@@ -44,7 +44,7 @@ sort_of_reply (reply.Settled ep errand ok) = Nothing
 sort_of_reply (reply.Called returned) = Callback returned.status
 
 -- the completion code of an end
-abbrev pub code_of : Ending → ℕ
+abbrev pub code_of : TransferEnd → ℕ
 code_of (ending.Whole bytes) = success
 code_of (ending.Short moved bytes) = short_packet
 code_of (ending.Stall ep) = stall_error

@@ -26,8 +26,8 @@ use Rattle.trace_explain.specs.declared.sentence.Idleness.{Idleness}
 use Rattle.trace_explain.specs.declared.sentence.Idleness.TheVariants as idleness
 use Rattle.trace_explain.specs.declared.sentence.Unready.{Unready}
 use Rattle.trace_explain.specs.declared.sentence.Unready.TheVariants as unready
-use Rattle.trace_explain.specs.declared.sentence.Ending.{Ending}
-use Rattle.trace_explain.specs.declared.sentence.Ending.TheVariants as ending
+use Rattle.trace_explain.specs.declared.sentence.TransferEnd.{TransferEnd}
+use Rattle.trace_explain.specs.declared.sentence.TransferEnd.TheVariants as ending
 use Rattle.trace_explain.specs.declared.sentence.Reason.{Reason}
 use Rattle.trace_explain.specs.declared.sentence.Reason.TheVariants as reason
 
@@ -145,7 +145,7 @@ unready_text (unready.Nak ep) = codes "the device isn't ready at " ++ hex_byte e
 unready_text (unready.ScriptEnd ep) = codes "the script of " ++ (hex_byte ep ++ codes " is at its end")
 unready_text (unready.Halted ep) = device_halted_text ep
 
-abbrev pub ending_text : Ending → List ℕ
+abbrev pub ending_text : TransferEnd → List ℕ
 ending_text (ending.Whole bytes) = codes "all " ++ (decimal bytes ++ codes " bytes moved")
 ending_text (ending.Short moved bytes) = codes "a short packet ends the read: " ++ (decimal moved ++ (codes " of " ++ (decimal bytes ++ codes " bytes")))
 ending_text (ending.Stall ep) = codes "the device stalls at " ++ hex_byte ep

@@ -1,6 +1,7 @@
 -- What the sentence of a refusal says of a world, as it is to the handle that calls: of its devices, lines, results and callbacks, and of no test.
-use Rattle.std.specs.Prelude.{◌≡◌, ◌≢◌, ℕ, ◌+◌, ◌==◌, ◌<◌, ◌≤◌, ◌⊎◌, true, false, not, ◌&&◌, Option, Some, None, is_some, IfSome, List, [], ◌∷◌}
+use Rattle.std.specs.Prelude.{◌≡◌, ◌≢◌, ℕ, ◌+◌, ◌-◌, min, ◌==◌, ◌<◌, ◌≤◌, ◌⊎◌, true, false, not, ◌&&◌, Option, Some, None, is_some, IfSome, List, [], ◌∷◌, ◌++◌, Bool, length}
 use Rattle.std.specs.List.{AllByRecursion, count_by, list_any}
+use Rattle.std.specs.Option.{option_map_or}
 use Rattle.usb_model.specs.declared.endpoint.Endpoint.{Endpoint}
 use Rattle.usb_model.specs.declared.item.Item.{Item}
 use Rattle.usb_model.specs.declared.refusal.Misfit.{Misfit}
@@ -27,15 +28,19 @@ use Rattle.usb_model.specs.declared.step.Step.TheVariants.{Open, Close, Claim, R
 use Rattle.usb_model.specs.declared.verdict.Verdict.{Verdict}
 use Rattle.usb_model.specs.declared.verdict.Verdict.TheVariants.{Stop, Again, AgainWith}
 use Rattle.usb_model.specs.Endpoint.{first_waiting, in_progress, is_blank}
+use Rattle.usb_model.specs.Endpoint.Packets.{count_of, outcome, without_naks}
+use Rattle.usb_model.specs.Endpoint.Serve.{next_answer}
 use Rattle.usb_model.specs.Machine.{Machine, device_of, endpoint_at, is_callback_at, is_result_at}
 use Rattle.usb_model.specs.Machine.Calls.{callback_of}
-use Rattle.usb_model.specs.Requests.{is_read, is_same_kind, length_of}
-use Rattle.usb_model.specs.Setup.{Setup, endpoints_of, has_interface, interface_of, is_device, is_in, kind_of}
+use Rattle.usb_model.specs.Requests.{is_read, is_same_kind, is_short_not_ok, length_of}
+use Rattle.usb_model.specs.Setup.{Setup, endpoints_of, has_interface, interface_of, is_device, is_in, kind_of, packet_size_of}
 use Rattle.usb_model.specs.World.{Claims, World, holder, machine_of}
 use Rattle.trace_explain.specs.declared.refusal.CallRefusal.{CallRefusal}
 use Rattle.trace_explain.specs.declared.refusal.UnplugRefusal.{UnplugRefusal}
 use Rattle.trace_explain.specs.declared.refusal.UnplugRefusal.TheVariants as unplug
 use Rattle.trace_explain.specs.declared.sentence.CalledWith.{CalledWith}
+use Rattle.trace_explain.specs.declared.sentence.TransferEnd.{TransferEnd}
+use Rattle.trace_explain.specs.declared.sentence.TransferEnd.TheVariants as ending
 use Rattle.trace_explain.specs.declared.sentence.Idleness.{Idleness}
 use Rattle.trace_explain.specs.declared.sentence.Idleness.TheVariants as idleness
 use Rattle.trace_explain.specs.declared.sentence.Reason.{Reason}
@@ -43,6 +48,7 @@ use Rattle.trace_explain.specs.declared.sentence.Reason.TheVariants as reason
 use Rattle.trace_explain.specs.declared.sentence.Unready.{Unready}
 use Rattle.trace_explain.specs.declared.sentence.Unready.TheVariants as unready
 use Rattle.trace_explain.specs.Endpoints.{listed, listed_of}
+use Rattle.trace_explain.specs.Own.{IsOwn}
 
 -- a transfer of this number is in progress at an endpoint of the handle's
 pub record InProgress (m : Machine) (n : ℕ) (Has : Item → Type 0) : Type 0 where
@@ -144,12 +150,13 @@ caller_of (Expire h n) = Some h
 caller_of (Answer h n verdict) = Some h
 caller_of step = None
 
--- what is told of a refused call in a world is true: it is the caller's, the endpoints are those of the device that it has open, and the
--- refusal is as the world has it
+-- what is told of a refused call in a world is true: it is the caller's, the endpoints are those of the device that it has open, the
+-- refusal is as the world has it, and what it names is the step's own
 pub record IsTrue (setup : Setup) (w : World) (step : Step) (x : CallRefusal) : Type 0 where
   pub whose : caller_of step ≡ Some x.h
   pub endpoints : x.endpoints ≡ listed_of setup (w.names x.h).device
   pub refusal : Says setup x.h (machine_of setup x.h w) w.claims (request_in (machine_of setup x.h w) step) x.refusal
+  pub own : IsOwn setup (machine_of setup x.h w) step (request_in (machine_of setup x.h w) step) x.refusal
 
 -- why there was nothing to do
 abbrev pub IdleIs : Setup → World → Step → Idleness → Type 0
@@ -186,6 +193,47 @@ pub record FailedIs (setup : Setup) (w : World) (ep : ℕ) (state : EndpointStat
   pub its : order.piece.ep ≡ ep
   pub stands : IfSome (endpoint_at (machine_of setup order.name w) ep) (λ e. e.state ≡ state)
 
+-- how many bytes a transfer moved by these answers; size: of its endpoint's packets, halted: whether its device has the endpoint halted
+abbrev pub moved_by_answers : Request → ℕ → List Response → Bool → ℕ
+moved_by_answers request size share halted = option_map_or count_of (outcome request size share halted) 0
+
+-- the last of these answers, but for those that weren't ready
+abbrev pub EndsWith : List Response → Response → Type 0
+EndsWith share x = (front : List Response) × (without_naks share ≡ front ++ x ∷ [])
+
+-- how a transfer ended by the answers that it took; packets of no bytes, which no endpoint has, leave a write's bytes behind
+abbrev pub EndingBy : Request → ℕ → List Response → Bool → TransferEnd → Type 0
+EndingBy request size share halted (ending.Whole bytes) = (length_of request.body ≡ bytes) × (size ≢ 0 → moved_by_answers request size share halted ≡ bytes)
+EndingBy request size share halted (ending.Short moved bytes) = (length_of request.body ≡ bytes) × (moved_by_answers request size share halted ≡ moved) × (moved < bytes) × (is_read request.body ≡ true)
+EndingBy request size share halted (ending.Stall ep) = (halted ≡ false) × EndsWith share response.Stall
+EndingBy request size share halted (ending.Halted ep) = halted ≡ true
+EndingBy request size share halted (ending.Broken ep) = EndsWith share response.Broken
+EndingBy request size share halted (ending.Babble ep) = (b : List ℕ) × EndsWith share (response.Data b) × (min size (length_of request.body - moved_by_answers request size share halted) < length b)
+EndingBy request size share halted (ending.Unplugged dev) = ⊥
+
+-- the endpoint that is named, if one is
+abbrev pub ending_ep : ℕ → TransferEnd → ℕ
+ending_ep ep (ending.Stall k) = k
+ending_ep ep (ending.Halted k) = k
+ending_ep ep (ending.Broken k) = k
+ending_ep ep (ending.Babble k) = k
+ending_ep ep x = ep
+
+-- the first transfer that waits at the endpoint that was served ended so, by the answers that it took and the one that came
+pub record EndsThere (setup : Setup) (w : World) (step : Step) (x : TransferEnd) : Type 0 where
+  pub dev : ℕ
+  pub ep : ℕ
+  pub served : step ≡ Serve dev ep
+  pub named : ending_ep ep x ≡ ep
+  pub item : Item
+  pub first : first_waiting (w.endpoints dev ep).line ≡ Some item
+  pub says : EndingBy item.request (packet_size_of setup dev ep) (item.share ++ next_answer (w.endpoints dev ep)) (w.endpoints dev ep).device_halted x
+
+-- how a transfer ended
+abbrev pub EndedIs : Setup → World → Step → TransferEnd → Type 0
+EndedIs setup w step (ending.Unplugged dev) = (ep : ℕ) × (step ≡ Serve dev ep) × (w.gone dev ≡ true)
+EndedIs setup w step x = EndsThere setup w step x
+
 -- a callback is told what the first result has
 pub record CalledIs (w : World) (x : CalledWith) : Type 0 where
   pub result : Tagged TransferResult
@@ -194,18 +242,19 @@ pub record CalledIs (w : World) (x : CalledWith) : Type 0 where
   pub status : x.status ≡ result.piece.status
   pub moved : x.moved ≡ result.piece.actual
   pub bytes : x.bytes ≡ length_of result.piece.request.body
+  pub short_not_ok : x.short_not_ok ≡ (is_read result.piece.request.body && is_short_not_ok result.piece.request)
 
 -- why a device can't be unplugged
 abbrev pub UnplugIs : Setup → World → Step → UnplugRefusal → Type 0
 UnplugIs setup w step (unplug.NoSuchDevice dev) = (step ≡ Unplug dev) × (is_device setup dev ≡ false)
 UnplugIs setup w step (unplug.Unplugged dev) = (step ≡ Unplug dev) × (w.gone dev ≡ true)
 
--- what a reason says, but for a refused call and for how a transfer ended
+-- what a reason says, but for a refused call
 abbrev pub ReasonIs : Setup → World → Step → Reason → Type 0
 ReasonIs setup w step (reason.Refused x) = Unit {0}
 ReasonIs setup w step (reason.UnplugRefused x) = UnplugIs setup w step x
 ReasonIs setup w step (reason.Idle x) = IdleIs setup w step x
 ReasonIs setup w step (reason.Nak x) = UnreadyIs w step x
-ReasonIs setup w step (reason.Ended x) = Unit {0}
+ReasonIs setup w step (reason.Ended x) = EndedIs setup w step x
 ReasonIs setup w step (reason.Failed ep state) = FailedIs setup w ep state
 ReasonIs setup w step (reason.Called x) = CalledIs w x

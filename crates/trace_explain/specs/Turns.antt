@@ -19,7 +19,7 @@ use Rattle.trace_explain.specs.declared.sentence.CalledWith.{CalledWith}
 use Rattle.trace_explain.specs.declared.sentence.Idleness.{Idleness}
 use Rattle.trace_explain.specs.declared.sentence.Idleness.TheVariants as idleness
 use Rattle.trace_explain.specs.Endpoints.{listed}
-use Rattle.trace_explain.specs.declared.sentence.Ending.TheVariants as ending
+use Rattle.trace_explain.specs.declared.sentence.TransferEnd.TheVariants as ending
 use Rattle.trace_explain.specs.declared.sentence.Reason.{Reason}
 use Rattle.trace_explain.specs.declared.sentence.Reason.TheVariants.{Idle, Ended, Failed, Called}
 use Rattle.trace_explain.specs.Endings.{answer_end, answer_reason}

@@ -9,7 +9,7 @@ ghost use Rattle.usb_model.specs.declared.request.Body.TheVariants.{In};
 ghost use Rattle.usb_model.specs.Endpoint.Packets.{acks, full_packets, moved_by, packets, sent_with, without_naks};
 
 use crate::answers::Answers;
-use crate::sentence::Ending;
+use crate::sentence::TransferEnd;
 use usb_model::{Body, Endpoint, EpAddr, Item, Request, Response};
 
 /// How a transfer ended.
@@ -29,22 +29,22 @@ pub(crate) enum End {
 
 impl End {
     /// In words that name the endpoint.
-    pub fn ending(self, ep: EpAddr, endpoint: &Endpoint, item: &Item) -> Ending
+    pub fn ending(self, ep: EpAddr, endpoint: &Endpoint, item: &Item) -> TransferEnd
         ensures { result ≡ ending_of ep endpoint.now item.now self }
     {
         let bytes = item.request.body.length();
         match self {
-            End::Whole => Ending::Whole { bytes },
-            End::Short(moved) => Ending::Short { moved, bytes },
+            End::Whole => TransferEnd::Whole { bytes },
+            End::Short(moved) => TransferEnd::Short { moved, bytes },
             End::Stall => {
                 if endpoint.device_halted {
-                    Ending::Halted { ep }
+                    TransferEnd::Halted { ep }
                 } else {
-                    Ending::Stall { ep }
+                    TransferEnd::Stall { ep }
                 }
             }
-            End::Broken => Ending::Broken { ep },
-            End::Babble => Ending::Babble { ep },
+            End::Broken => TransferEnd::Broken { ep },
+            End::Babble => TransferEnd::Babble { ep },
         }
     }
 }

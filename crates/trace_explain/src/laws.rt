@@ -12,7 +12,7 @@ ghost use Rattle.usb_model.specs.Setup.{Setup};
 ghost use Rattle.usb_model.specs.World.{World, turn};
 ghost use Rattle.trace_explain.specs.declared.refusal.CallRefusal.{CallRefusal};
 ghost use Rattle.trace_explain.specs.declared.sentence.CalledWith.{CalledWith};
-ghost use Rattle.trace_explain.specs.declared.sentence.Ending.{Ending};
+ghost use Rattle.trace_explain.specs.declared.sentence.TransferEnd.{TransferEnd};
 ghost use Rattle.trace_explain.specs.declared.sentence.Idleness.{Idleness};
 ghost use Rattle.trace_explain.specs.declared.sentence.Reason.{Reason};
 ghost use Rattle.trace_explain.specs.declared.sentence.Reason.TheVariants.{Called, Ended, Failed, Idle, Nak, Refused as IsRefused};
@@ -32,8 +32,8 @@ pub fn refusals()
         → option_and_then refusal_of (reason_of setup w step) ≡ Some why }
 {}
 
-/// What is told of a step is true of the world in which it is made: of a refused call (`refused`), and of all else but how a transfer
-/// ended (`others`).
+/// What is told of a step is true of the world in which it is made, and speaks of what the step names: of a refused call (`refused`), and
+/// of all else (`others`).
 pub fn truths()
     ensures others { (setup : Setup) (w : World) (step : Step) (r : Reason) → reason_of setup w step ≡ Some r → ReasonIs setup w step r }
     ensures refused { (setup : Setup) (w : World) (step : Step) (x : CallRefusal) → reason_of setup w step ≡ Some (IsRefused x) → IsTrue setup w step x }
@@ -47,7 +47,7 @@ pub fn others()
     ensures nak { (setup : Setup) (w : World) (step : Step) (n : ℕ) → (turn setup w step).entry.reply ≡ reply.Nak n
         → (x : Unready) × (reason_of setup w step ≡ Some (Nak x)) }
     ensures ended { (setup : Setup) (w : World) (step : Step) (n code : ℕ) → (turn setup w step).entry.reply ≡ reply.Ended n code
-        → (x : Ending) × (reason_of setup w step ≡ Some (Ended x)) × (code_of x ≡ code) }
+        → (x : TransferEnd) × (reason_of setup w step ≡ Some (Ended x)) × (code_of x ≡ code) }
     ensures failed { (setup : Setup) (w : World) (step : Step) (ep : ℕ) (errand : Errand) → (turn setup w step).entry.reply ≡ reply.Ran ep errand false
         → (state : EndpointState) × (reason_of setup w step ≡ Some (Failed ep state)) }
     ensures called { (setup : Setup) (w : World) (step : Step) (returned : Returned) → (turn setup w step).entry.reply ≡ reply.Called returned

@@ -30,12 +30,12 @@
 //! - `Display` of `Reason`, `CallRefusal` and their parts: the text of its definition, byte for byte
 //! - `sorts`, `refusals`, `others`: a refused step has a reason, of a test that refuses with what the reply says; an idle
 //!   step, a packet that wasn't ready, an end, an order that failed and a callback have one of their sorts; no other has
-//! - `truths`: what is told is true of the world in which the step is made, in the world's own words (specs/Truth). Of a refused call: a
-//!   transfer that is said to be in a line is in progress there, and what is said to keep the places of an endpoint are the counts of
-//!   its line and of its results, which are at least 16 together. Of a step with nothing to do, a device that wasn't ready, an order
-//!   that failed, a callback and an Unplug: what is said of the endpoint, the lists and the result. Of how a transfer ended `others` has
-//!   the code, and no law its bytes
-//!
+//! - `truths`: what is told is true of the world in which the step is made, in the world's own words (specs/Truth), and is the step's own
+//!   (specs/Own). Of a refused call: a transfer that is said to be in a line is in progress there, and what is said to keep the places of an
+//!   endpoint are the counts of its line and of its results, which are at least 16 together; the device, interface, endpoint or number
+//!   that is named is the step's, or of the device that the caller has open. Of a step with nothing to do, a device that wasn't ready, an
+//!   order that failed, a callback and an Unplug: what is said of the endpoint, the lists and the result. Of how a transfer ended: how many
+//!   of how many bytes moved, this packet's among them, and the answer that ended it
 //! - `explained_run`: the text is that of the definition (`explained_text`): entries of the plan's run, and reasons (`reason_of`) or packets (`packets_moved` of `reference`) of the very steps that the plan stands for. The plain program makes
 //!   the run, since between two of its steps all that handles have can be looked at
 #![tactic(auto)]
@@ -63,6 +63,6 @@ pub use endpoints::EndpointList;
 pub use explained::explained_run;
 pub use laws::{others, refusals, sorts};
 pub use refusal::{CallRefusal, UnplugRefusal};
-pub use sentence::{CalledWith, Ending, Idleness, Reason, Unready};
+pub use sentence::{CalledWith, Idleness, Reason, TransferEnd, Unready};
 pub use step::reason;
 pub use telling::Telling;

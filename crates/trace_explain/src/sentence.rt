@@ -62,7 +62,7 @@ pub enum Unready {
 
 /// Why a transfer ended.
 #[derive(Clone, Copy, PartialEq, Eq, Debug)]
-pub enum Ending {
+pub enum TransferEnd {
     /// All its bytes moved.
     Whole { bytes: usize },
     /// A short packet ended the read.
@@ -104,7 +104,7 @@ pub enum Reason {
     /// Why the device gave no packet.
     Nak(Unready),
     /// Why a transfer ended.
-    Ended(Ending),
+    Ended(TransferEnd),
     /// Why an order failed: the endpoint is in this state.
     Failed { ep: EpAddr, state: EndpointState },
     /// What a callback is told.
@@ -156,24 +156,24 @@ impl fmt::Display for Unready {
     }
 }
 
-impl fmt::Display for Ending {
+impl fmt::Display for TransferEnd {
     ghost output = { λ x. Some (ending_text x) };
 
     fn fmt<W: fmt::Write>(&self, f: &mut fmt::Formatter<W>) -> fmt::Result {
         match self {
-            Ending::Whole { bytes } => write!(f, "all {bytes} bytes moved"),
-            Ending::Short { moved, bytes } => write!(
+            TransferEnd::Whole { bytes } => write!(f, "all {bytes} bytes moved"),
+            TransferEnd::Short { moved, bytes } => write!(
                 f,
                 "a short packet ends the read: {moved} of {bytes} bytes"
             ),
-            Ending::Stall { ep } => write!(f, "the device stalls at {ep}"),
-            Ending::Halted { ep } => write!(f, "the device's endpoint {ep} is halted"),
-            Ending::Broken { ep } => write!(f, "the packet at {ep} was broken"),
-            Ending::Babble { ep } => write!(
+            TransferEnd::Stall { ep } => write!(f, "the device stalls at {ep}"),
+            TransferEnd::Halted { ep } => write!(f, "the device's endpoint {ep} is halted"),
+            TransferEnd::Broken { ep } => write!(f, "the packet at {ep} was broken"),
+            TransferEnd::Babble { ep } => write!(
                 f,
                 "the packet at {ep} has more bytes than there is room for"
             ),
-            Ending::Unplugged { dev } => {
+            TransferEnd::Unplugged { dev } => {
                 let dev = DeviceName(*dev);
                 write!(f, "{dev} was unplugged")
             }

@@ -12,7 +12,7 @@ use crate::answers::next_answer;
 use crate::caller::Caller;
 use crate::endpoints::EndpointList;
 use crate::ends::{End, answer_end};
-use crate::sentence::{CalledWith, Ending, Idleness, Reason, Unready};
+use crate::sentence::{CalledWith, Idleness, Reason, TransferEnd, Unready};
 use reference::System;
 use usb_model::{
     Body, DeviceNo, Endpoint, EndpointState, EpAddr, Errand, Item, Response, Setup, TransferResult,
@@ -73,7 +73,7 @@ fn first_reason(
         return Some(Reason::Idle(Idleness::NoTransfer { ep }));
     };
     if gone {
-        return Some(Reason::Ended(Ending::Unplugged { dev }));
+        return Some(Reason::Ended(TransferEnd::Unplugged { dev }));
     }
     answer_reason(ep, endpoint, item, answer_end(size, endpoint, item))
 }
