@@ -1,10 +1,10 @@
 //! The word of a bad line that its problem is about. No contract says which word that is.
 
-use crate::slip::{Slip, has_zero_x};
+use crate::slip::{Slip, has_wrong_times, has_zero_x};
 use crate::verb::Verb;
 use usb_model::limits::LARGEST_PACKET;
 use usb_scripttext::words::ascii;
-use usb_scripttext::{Expected, Problem, behind};
+use usb_scripttext::{Expected, Problem, behind, with_times};
 
 /// How many words stand before the answers of a script.
 const BEFORE_ANSWERS: usize = 3;
@@ -21,6 +21,9 @@ pub(crate) fn slipped(line: &[u8], slip: Slip) -> Option<&str> {
         Slip::Prefix => ascii(line)?
             .split(' ')
             .find(|word| has_zero_x(word.as_bytes())),
+        Slip::Times => ascii(line)?
+            .split(' ')
+            .find(|word| has_wrong_times(word.as_bytes())),
         _ => None,
     }
 }
@@ -94,8 +97,9 @@ fn first_wrong_packet(line: &str) -> Option<&str> {
         .find(|word| !is_answer(word, true) && !is_answer(word, false))
 }
 
-/// Whether a word is an answer of an endpoint of this direction.
+/// Whether a word is an answer of an endpoint of this direction, or so many of one.
 fn is_answer(word: &str, is_in: bool) -> bool {
+    let (word, _) = with_times(word);
     match word {
         "n" | "s" | "b" => true,
         _ if is_in => is_packet(word),

@@ -2,14 +2,14 @@
 
 ghost use Rattle.std.specs.Prelude.{◌≡◌, IfOk};
 ghost use Rattle.usb_scripttext.specs.ExpectedPacket.{expected_packet_of};
-ghost use Rattle.trace_scenario.specs.Expectations.{expected_by_words, expected_in_line, expected_of, expected_of_words, says_answers};
+ghost use Rattle.trace_scenario.specs.Expectations.{expected_by_words, expected_in_line, expected_of, expected_of_plain, expected_of_words, says_answers};
 ghost use Rattle.usb_scripttext.specs.Words.{words_of};
 
 use std::alloc::{AllocError, Global};
 use usb_model::{DeviceNo, EpAddr, Sequence};
 use usb_scripttext::number::{address, device};
 use usb_scripttext::words::ascii;
-use usb_scripttext::{ExpectedPacket, LineFault, read_expected_packet};
+use usb_scripttext::{ExpectedPacket, LineFault, copies, read_expected_packet};
 
 /// What a line expects of the packets that an endpoint takes.
 #[derive(Debug, Drop)]
@@ -18,7 +18,7 @@ pub struct ExpectedPackets {
     pub dev: DeviceNo,
     /// The endpoint.
     pub ep: EpAddr,
-    /// One for each answer of the line that takes a packet, in order.
+    /// One for each answer of the line that takes a packet, in order; as often as the answer stands.
     pub packets: Sequence<ExpectedPacket>,
 }
 
@@ -33,9 +33,9 @@ fn expected_of_word(alloc: Global, word: &str) -> Result<Option<ExpectedPacket>,
     }
 }
 
-/// What some answers expect: one for each that takes a packet.
-fn expected_of_words(alloc: Global, words: &[&str]) -> Result<Vec<ExpectedPacket>, AllocError>
-    ensures { IfOk result (λ packets. packets.items ≡ expected_of_words (words_of words.now)) }
+/// What answers that are written out expect: one for each that takes a packet.
+fn expected_of_plain(alloc: Global, words: &[&str]) -> Result<Vec<ExpectedPacket>, AllocError>
+    ensures { IfOk result (λ packets. packets.items ≡ expected_of_plain (words_of words.now)) }
 {
     let mut packets = Vec::new(alloc);
     for word in words {
@@ -44,6 +44,17 @@ fn expected_of_words(alloc: Global, words: &[&str]) -> Result<Vec<ExpectedPacket
         }
     }
     Ok(packets)
+}
+
+/// What some answers expect, each as often as it stands; nothing where they are more than a script may have. Of the answers that
+/// `..` adds nothing is expected.
+fn expected_of_words(alloc: Global, words: &[&str]) -> Result<Vec<ExpectedPacket>, AllocError>
+    ensures { IfOk result (λ packets. packets.items ≡ expected_of_words (words_of words.now)) }
+{
+    match copies(alloc, words)? {
+        Some(words) => expected_of_plain(alloc, words.as_slice()),
+        None => Ok(Vec::new(alloc)),
+    }
 }
 
 /// Whether a line that begins with this word has answers.

@@ -36,8 +36,8 @@
 //! - `read_lined`: the same with the line of each piece of the plan: its number and its bytes (`step_lines`), as many
 //!   lines as pieces; and the line of each device: its number and the bytes of its configuration (`device_lines`)
 //! - `read_expected`: what the lines of a text expect of packets that are taken (`expected_of`), one for each line
-//!   `script` or `feed`, with an entry for each answer that takes a packet. Want of memory leaves it open. The scenario
-//!   of a text is the same, whatever is expected
+//!   `script` or `feed`, with an entry for each answer that takes a packet, as often as the answer stands; none for what `..`
+//!   adds. Want of memory leaves it open. The scenario of a text is the same, whatever is expected
 //! - `check`: the numbers of the bad lines, each line judged by what the good ones before it say, and the counts of
 //!   what the good ones say
 //! - `laws::bad_lines`: a text has no bad line exactly where it is that of a scenario; where it is none, the line

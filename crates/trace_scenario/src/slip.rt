@@ -2,7 +2,8 @@
 //! sentence fits its line.
 
 use usb_descriptors::DescFault;
-use usb_scripttext::Problem;
+use usb_model::limits::LONGEST_SCRIPT;
+use usb_scripttext::{Expected, Problem};
 
 /// A slip that makes a line bad.
 #[derive(Clone, Copy, PartialEq, Eq, Debug)]
@@ -15,6 +16,8 @@ pub enum Slip {
     Prefix,
     /// A device descriptor stands in front of the configuration.
     DeviceDescriptor,
+    /// Behind the star of an answer stands a number that isn't from 1 to 65,536.
+    Times,
 }
 
 impl Slip {
@@ -31,6 +34,9 @@ impl Slip {
             Problem::Descriptor(DescFault::WrongType(0)) if has_device(line) => {
                 Some(Slip::DeviceDescriptor)
             }
+            Problem::Word(Expected::InAnswer | Expected::OutAnswer)
+            | Problem::Word(Expected::Bytes | Expected::PacketBytes)
+                if line.split(|byte| *byte == b' ').any(has_wrong_times) => { Some(Slip::Times) }
             _ => None,
         }
     }
@@ -46,6 +52,9 @@ impl Slip {
             Slip::DeviceDescriptor => {
                 "a device descriptor stands in front of the configuration; leave out its 18 bytes"
             }
+            Slip::Times => {
+                "how often an answer is given, behind `*`, isn't a decimal number from 1 to 65536"
+            }
         }
     }
 }
@@ -53,6 +62,28 @@ impl Slip {
 /// Whether a word begins with `0x`.
 pub(crate) fn has_zero_x(word: &[u8]) -> bool {
     matches!(word, [b'0', b'x', ..])
+}
+
+/// Whether behind the first star of a word stand digits that are no decimal number from 1 to 65,536.
+pub(crate) fn has_wrong_times(word: &[u8]) -> bool {
+    let Some(star) = word.iter().position(|byte| *byte == b'*') else {
+        return false;
+    };
+    let times = word.get(star.saturating_add(1)..).unwrap_or(&[]);
+    !times.is_empty()
+        && times.iter().all(u8::is_ascii_digit)
+        && (times.len() > 5 || times.starts_with(b"0") || number(times) > LONGEST_SCRIPT)
+}
+
+/// The number of some decimal digits.
+fn number(digits: &[u8]) -> usize {
+    let mut number: usize = 0;
+    for digit in digits {
+        number = number
+            .saturating_mul(10)
+            .saturating_add(usize::from(digit.saturating_sub(b'0')));
+    }
+    number
 }
 
 /// Whether one of a line's words begins with `0x`.

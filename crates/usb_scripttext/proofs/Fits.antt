@@ -16,7 +16,8 @@ use Rattle.usb_scripttext.specs.declared.script.EndpointAnswers.{EndpointAnswers
 use Rattle.usb_scripttext.specs.ExpectedPacket.{expected_packet_of}
 use Rattle.usb_scripttext.specs.Number.{address_of, bytes_of, device_of, is_decimal, number_of}
 use Rattle.usb_scripttext.specs.Prefix.{behind}
-use Rattle.usb_scripttext.specs.Script.{answer_of, answers_of, each_of, endpoint_answers, endpoint_answers_of, packet_of}
+use Rattle.usb_scripttext.specs.Repeats.{written_out}
+use Rattle.usb_scripttext.specs.Script.{answer_of, answers_of, each_of, endpoint_answers, endpoint_answers_of, packet_of, plain_answers_of}
 
 -- what is said by way of another word
 pub if_and_then : {A B : Type 0} (F : B → Type 0) (f : A → Option B) (o : Option A) → ((x : A) → IfSome (f x) F) → IfSome (option_and_then f o) F
@@ -108,8 +109,8 @@ each_fits ep (word ∷ words) =
 abbrev pub IsScriptOf : ℕ → List Response → Type 0
 IsScriptOf ep answers = (length answers ≤ longest_script) × (list_all (is_answer (is_in ep)) answers ≡ true)
 
-answers_fit : (ep : ℕ) (words : List (List ℕ)) → IfSome (answers_of ep words) (IsScriptOf ep)
-unfolding answers_of
+answers_fit : (ep : ℕ) (words : List (List ℕ)) → IfSome (plain_answers_of ep words) (IsScriptOf ep)
+unfolding plain_answers_of
 answers_fit ep words = by_test (nat_lt 0 (length words)) (nat_le (length words) longest_script) refl
   where
     by_test : (some few : Bool) → nat_le (length words) longest_script ≡ few → IfSome (if some && few then each_of (answer_of ep) words else None) (IsScriptOf ep)
@@ -125,6 +126,6 @@ pub said_fit : (words : List (List ℕ)) → IfSome (endpoint_answers_of words) 
 unfolding endpoint_answers_of
 said_fit (dev ∷ ep ∷ words) =
     if_and_then AreFit (λ d. option_and_then (λ e. option_map (endpoint_answers d e) (answers_of e words)) (address_of ep)) (device_of dev)
-    (λ d. if_and_then AreFit (λ e. option_map (endpoint_answers d e) (answers_of e words)) (address_of ep) (λ e. if_map_of (IsScriptOf e) AreFit (endpoint_answers d e) (answers_of e words) (answers_fit e words) (λ answers fit. fit)))
+    (λ d. if_and_then AreFit (λ e. option_map (endpoint_answers d e) (answers_of e words)) (address_of ep) (λ e. if_map_of (IsScriptOf e) AreFit (endpoint_answers d e) (answers_of e words) (answers_fit e (written_out words)) (λ answers fit. fit)))
 said_fit [] = tt
 said_fit (dev ∷ []) = tt

@@ -1,6 +1,7 @@
 pub mod Numbers
 pub mod Prefixes
 pub mod Each
+pub mod WrittenOut
 pub mod Texts
 pub mod Counted
 pub mod Places

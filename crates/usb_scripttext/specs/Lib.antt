@@ -4,6 +4,7 @@ pub mod Words
 pub mod Number
 pub mod Prefix
 pub mod ExpectedPacket
+pub mod Repeats
 pub mod Script
 pub mod Devices
 pub mod Results

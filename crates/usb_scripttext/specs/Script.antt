@@ -10,6 +10,7 @@ use Rattle.usb_scripttext.specs.declared.script.EndpointAnswers.{EndpointAnswers
 use Rattle.usb_scripttext.specs.ExpectedPacket.{expected_packet_of}
 use Rattle.usb_scripttext.specs.Number.{address_of, bytes_of, device_of}
 use Rattle.usb_scripttext.specs.Prefix.{behind}
+use Rattle.usb_scripttext.specs.Repeats.{written_out}
 
 -- what each of some words says, where each says something
 unfoldable pub each_of : {A : Type 0} → (List ℕ → Option A) → List (List ℕ) → Option (List A)
@@ -29,9 +30,13 @@ answer_of ep word =
     else if is_in ep then option_and_then packet_of (behind (codes "d:") word)
     else option_map (λ expected. response.Ack) (expected_packet_of word)
 
--- the answers of an endpoint: one at least
-unfoldable pub answers_of : ℕ → List (List ℕ) → Option (List Response)
-answers_of ep words = if nat_lt 0 (length words) && nat_le (length words) longest_script then each_of (answer_of ep) words else None
+-- the answers of words that are written out: 1 to as many as a script may have
+unfoldable pub plain_answers_of : ℕ → List (List ℕ) → Option (List Response)
+plain_answers_of ep words = if nat_lt 0 (length words) && nat_le (length words) longest_script then each_of (answer_of ep) words else None
+
+-- the answers of an endpoint: those of its words, each as often as it stands
+abbrev pub answers_of : ℕ → List (List ℕ) → Option (List Response)
+answers_of ep words = plain_answers_of ep (written_out words)
 
 -- the answers of an endpoint of a device
 abbrev pub endpoint_answers : ℕ → ℕ → List Response → EndpointAnswers

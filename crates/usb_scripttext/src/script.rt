@@ -13,8 +13,9 @@ use crate::fault::LineFault;
 use crate::number::{address, bytes, device};
 use crate::prefix::behind;
 use crate::problem::Problem;
+use crate::repeats::written_out;
 use std::alloc::Global;
-use usb_model::limits::{LARGEST_PACKET, LONGEST_SCRIPT};
+use usb_model::limits::LARGEST_PACKET;
 use usb_model::{DeviceNo, EpAddr, Response, Script};
 
 /// The answers of an endpoint of a device.
@@ -41,15 +42,18 @@ pub fn endpoint_answers(alloc: Global, words: &[&str]) -> Result<EndpointAnswers
     Ok(EndpointAnswers { dev, ep, answers })
 }
 
-/// The answers of some words: 1 to 65,536.
-#[tactic(auto, unfolding(crate::specs::Script::answers_of))]
+/// The answers of some words, each as often as it stands: 1 to 65,536 in all.
+#[tactic(auto, unfolding(crate::specs::Script::plain_answers_of))]
 fn answers(alloc: Global, ep: EpAddr, words: &[&str]) -> Result<Script, LineFault>
     ensures { ReadsAs result (answers_of ep (words_of words.now)) }
 {
-    if words.is_empty() || words.len() > LONGEST_SCRIPT {
+    let Some(words) = written_out(alloc, words)? else {
+        return Err(LineFault::Bad(Problem::Answers));
+    };
+    if words.is_empty() {
         return Err(LineFault::Bad(Problem::Answers));
     }
-    each_answer(alloc, ep, words)
+    each_answer(alloc, ep, words.as_slice())
 }
 
 /// The answer of each word.
