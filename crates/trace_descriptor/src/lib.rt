@@ -11,6 +11,9 @@
 //! - `interface.rt`, specs/Interfaces: interface descriptors
 //! - `text.rt`, `class.rt`, specs/Lines: the lines
 //! - `device.rt`, `fault.rt`, specs/Device, Faults: the whole, or why there is none
+//! - `describe.rt`, `stop.rt`: the table of a file, and why it ends early
+//! - `table.rt`, `kinds.rt`, `layouts.rt`: its printer, which table a descriptor has, and all tables
+//! - `field.rt`, `flags.rt`, `names.rt`, `class_names.rt`: how a field is printed, and what its number stands for
 //! - `laws.rt`, specs/Laws, proofs/Quiet, DeviceLine: what the text is to a scenario
 //!
 //! # Contracts
@@ -21,21 +24,27 @@
 #![tactic(auto)]
 
 mod class;
+mod class_names;
 mod describe;
 mod device;
 mod fault;
 mod field;
 mod file;
+mod flags;
 mod input;
 mod interface;
+mod kinds;
 pub mod laws;
+mod layouts;
 mod names;
 mod piece;
+mod stop;
 mod table;
 #[cfg(test)]
 mod tests;
 mod text;
 
-pub use describe::description;
+pub use describe::{description, description_stop};
 pub use device::device_lines;
 pub use fault::DescriptorFault;
+pub use stop::{StopReason, TableStop};

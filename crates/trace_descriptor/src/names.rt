@@ -1,30 +1,5 @@
 //! What numbers in descriptors stand for, in the words of `lsusb -v`.
 
-/// A class (USB-IF, defined class codes), behind a space; nothing for a rare one.
-pub(crate) fn class_of_lsusb(class: u8) -> &'static str {
-    match class {
-        0x00 => " (Defined at Interface level)",
-        0x01 => " Audio",
-        0x02 => " Communications",
-        0x03 => " Human Interface Device",
-        0x05 => " Physical Interface Device",
-        0x06 => " Imaging",
-        0x07 => " Printer",
-        0x08 => " Mass Storage",
-        0x09 => " Hub",
-        0x0a => " CDC Data",
-        0x0b => " Chip/SmartCard",
-        0x0d => " Content Security",
-        0x0e => " Video",
-        0xdc => " Diagnostic",
-        0xe0 => " Wireless",
-        0xef => " Miscellaneous Device",
-        0xfe => " Application Specific Interface",
-        0xff => " Vendor Specific Class",
-        _ => "",
-    }
-}
-
 /// The kind of an endpoint, by its bmAttributes (USB 2.0, table 9-13).
 pub(crate) fn transfer_type(attributes: u8) -> &'static str {
     match attributes % 4 {
@@ -56,7 +31,7 @@ pub(crate) fn usage_type(attributes: u8) -> &'static str {
 }
 
 /// How many packets a microframe may have, by bits 12..11 of wMaxPacketSize.
-pub(crate) fn packets_of_microframe(size: u16) -> &'static str {
+pub(crate) fn packets_of_microframe(size: u64) -> &'static str {
     match size / 2048 % 4 {
         0 => "1x",
         1 => "2x",
@@ -68,9 +43,69 @@ pub(crate) fn packets_of_microframe(size: u16) -> &'static str {
 /// A type of descriptors that a HID descriptor counts (HID 1.11, 7.1).
 pub(crate) fn hid_type(kind: u8) -> &'static str {
     match kind {
-        0x21 => " HID",
-        0x22 => " Report",
-        0x23 => " Physical",
+        0x21 => "HID",
+        0x22 => "Report",
+        0x23 => "Physical",
         _ => "",
     }
 }
+
+/// What a pipe of a mass storage device carries (UAS 1.0, 5.3.3.5).
+pub(crate) fn pipe_name(pipe: u8) -> &'static str {
+    match pipe {
+        1 => "Command pipe",
+        2 => "Status pipe",
+        3 => "Data-in pipe",
+        4 => "Data-out pipe",
+        0xe0..=0xef => "Vendor specific",
+        _ => "Reserved",
+    }
+}
+
+/// The country of a keyboard (HID 1.11, 6.2.1).
+pub(crate) fn country(code: u8) -> &'static str {
+    COUNTRIES
+        .get(usize::from(code))
+        .copied()
+        .unwrap_or("Unknown")
+}
+
+/// Countries, from number 0 on.
+static COUNTRIES: [&str; 36] = [
+    "Not supported",
+    "Arabic",
+    "Belgian",
+    "Canadian-Bilingual",
+    "Canadian-French",
+    "Czech Republic",
+    "Danish",
+    "Finnish",
+    "French",
+    "German",
+    "Greek",
+    "Hebrew",
+    "Hungary",
+    "International (ISO)",
+    "Italian",
+    "Japan (Katakana)",
+    "Korean",
+    "Latin American",
+    "Netherlands/Dutch",
+    "Norwegian",
+    "Persian (Farsi)",
+    "Poland",
+    "Portuguese",
+    "Russia",
+    "Slovakia",
+    "Spanish",
+    "Swedish",
+    "Swiss/French",
+    "Swiss/German",
+    "Switzerland",
+    "Taiwan",
+    "Turkish-Q",
+    "UK",
+    "US",
+    "Yugoslavia",
+    "Turkish-F",
+];

@@ -1,36 +1,31 @@
-//! Descriptors as a table, in the layout of `lsusb -v`.
+//! Descriptors as a table, in the layout of `lsusb -v`: one printer for the tables of all descriptors.
 
-use crate::field::{
-    DescriptorField, association_fields, configuration_fields, device_fields, hid_fields,
-    interface_fields,
-};
-use crate::names::{hid_type, packets_of_microframe, synch_type, transfer_type, usage_type};
+use crate::field::{DescriptorField, Margin};
+use crate::kinds::{Place, layout_of, pipe};
+use crate::layouts::{HID_COUNTED, Layout, Rest, device};
+use crate::names::pipe_name;
 use crate::piece::byte_at;
+use crate::stop::{StopReason, TableStop};
 use crate::text::DescriptorText;
 use std::alloc::{AllocError, Global};
 
-/// The type of a configuration descriptor (USB 2.0, table 9-5).
-const CONFIGURATION: u8 = 2;
+/// The unit of MaxPower in milliamperes (USB 2.0, table 9-10).
+const UNIT: u64 = 2;
 
-/// That of an interface descriptor.
-const INTERFACE: u8 = 4;
-
-/// That of an endpoint descriptor.
-const ENDPOINT: u8 = 5;
-
-/// That of an interface association.
-const ASSOCIATION: u8 = 11;
-
-/// That of a HID descriptor (HID 1.11, 7.1).
-const HID: u8 = 0x21;
+/// That of a device of USB 3 (USB 3.2, table 9-22).
+const SUPER_SPEED_UNIT: u64 = 8;
 
 /// A table that is written descriptor by descriptor.
 #[derive(Drop)]
 pub(crate) struct Table {
     text: DescriptorText,
     alloc: Global,
-    /// What stands in front of a descriptor that isn't known, by the descriptor that it stands behind.
-    margin: &'static str,
+    /// Behind which descriptors the next one stands.
+    place: Place,
+    /// The unit of MaxPower.
+    unit: u64,
+    /// Why it ends before the input does, if so.
+    stop: Option<TableStop>,
 }
 
 impl Table {
@@ -39,185 +34,109 @@ impl Table {
         Table {
             text: DescriptorText::new(alloc),
             alloc,
-            margin: "    ",
+            place: Place::new(),
+            unit: UNIT,
+            stop: None,
         }
     }
 
-    /// Its text.
-    pub(crate) fn into_bytes(self) -> Vec<u8> {
+    /// Its text, and why it ends before the input does.
+    pub(crate) fn into_parts(self) -> (Vec<u8>, Option<TableStop>) {
         let Table {
             text,
             alloc: _,
-            margin: _,
+            place: _,
+            unit: _,
+            stop,
         } = self;
-        text.into_bytes()
+        (text.into_bytes(), stop)
     }
 
-    /// Puts a line behind it: a field's name, its number in a column of its own, and more.
-    fn put_row(
-        &mut self,
-        margin: &str,
-        name: &str,
-        value: &str,
-        note: &str,
-    ) -> Result<(), AllocError> {
-        let row = format!(in self.alloc; "{margin}{name:<19}{value:>6}{note}\n")?;
-        self.text.put(row.as_str())
-    }
-
-    /// Puts a field behind it.
-    fn put_field(
-        &mut self,
-        margin: &str,
-        field: &DescriptorField,
-        bytes: &[u8],
-    ) -> Result<(), AllocError> {
-        let value = field.value(self.alloc, bytes)?;
-        self.put_row(margin, field.name, value.as_str(), field.note(bytes))
-    }
-
-    /// Puts fields behind it.
+    /// Puts the fields of a descriptor behind it, as far as it has them.
     fn put_fields(
         &mut self,
-        margin: &str,
+        blanks: &'static str,
         fields: &[DescriptorField],
         bytes: &[u8],
     ) -> Result<(), AllocError> {
+        let margin = Margin {
+            blanks,
+            unit: self.unit,
+        };
         for field in fields {
-            self.put_field(margin, field, bytes)?;
+            if field.end() <= bytes.len() {
+                field.put(&mut self.text, self.alloc, margin, bytes)?;
+            }
         }
         Ok(())
     }
 
-    /// Puts a device descriptor behind it.
-    pub(crate) fn put_device(&mut self, bytes: &[u8]) -> Result<(), AllocError> {
-        self.text.put("Device Descriptor:\n")?;
-        self.put_fields("  ", &device_fields(), bytes)
+    /// Puts behind it that a descriptor has fewer bytes than its table, or than it says itself.
+    fn put_lack(&mut self, margin: &str, has: usize, needs: usize) -> Result<(), AllocError> {
+        let line = format!(in self.alloc; "{margin}** cut off: {has} of {needs} bytes\n")?;
+        self.text.put(line.as_str())
     }
 
-    /// Puts what bmAttributes of a configuration says behind it (USB 2.0, table 9-10).
-    fn put_power(&mut self, attributes: u8) -> Result<(), AllocError> {
-        if attributes & 0x80 == 0 {
-            self.text.put("      (Missing must-be-set bit!)\n")?;
-        }
-        self.text.put(if attributes & 0x40 != 0 {
-            "      Self Powered\n"
-        } else {
-            "      (Bus Powered)\n"
-        })?;
-        if attributes & 0x20 != 0 {
-            self.text.put("      Remote Wakeup\n")?;
-        }
-        if attributes & 0x10 != 0 {
-            self.text.put("      Battery Powered\n")?;
+    /// Puts a descriptor behind it, by its table.
+    fn put_layout(&mut self, layout: &Layout, bytes: &[u8]) -> Result<(), AllocError> {
+        self.text.put(layout.title)?;
+        self.put_fields(layout.margin, layout.fields, bytes)?;
+        self.put_rest(layout, bytes)?;
+        let needs = needed(layout, bytes);
+        if bytes.len() < needs {
+            self.put_lack(layout.margin, bytes.len(), needs)?;
         }
         Ok(())
     }
 
-    /// Puts a configuration descriptor behind it.
-    fn put_configuration(&mut self, bytes: &[u8]) -> Result<(), AllocError> {
-        self.margin = "    ";
-        self.text.put("  Configuration Descriptor:\n")?;
-        self.put_fields("    ", &configuration_fields(), bytes)?;
-        self.put_power(byte_at(bytes, 7))?;
-        let power = 2 * u32::from(byte_at(bytes, 8));
-        let power = format!(in self.alloc; "{power}")?;
-        self.put_row("    ", "MaxPower", power.as_str(), "mA")
-    }
-
-    /// Puts an interface descriptor behind it.
-    fn put_interface(&mut self, bytes: &[u8]) -> Result<(), AllocError> {
-        self.margin = "      ";
-        self.text.put("    Interface Descriptor:\n")?;
-        self.put_fields("      ", &interface_fields(), bytes)
-    }
-
-    /// Puts an interface association behind it.
-    fn put_association(&mut self, bytes: &[u8]) -> Result<(), AllocError> {
-        self.text.put("    Interface Association:\n")?;
-        self.put_fields("      ", &association_fields(), bytes)
-    }
-
-    /// Puts a number of an endpoint descriptor behind it.
-    fn put_number(&mut self, name: &str, number: u8) -> Result<(), AllocError> {
-        let number = format!(in self.alloc; "{number}")?;
-        self.put_row("        ", name, number.as_str(), "")
-    }
-
-    /// Puts the address of an endpoint behind it.
-    fn put_address(&mut self, address: u8) -> Result<(), AllocError> {
-        let value = format!(in self.alloc; "0x{address:02x}")?;
-        let (number, direction) = (address % 16, if address >= 128 { "IN" } else { "OUT" });
-        let note = format!(in self.alloc; "  EP {number} {direction}")?;
-        self.put_row(
-            "        ",
-            "bEndpointAddress",
-            value.as_str(),
-            note.as_str(),
-        )
-    }
-
-    /// Puts its attributes behind it.
-    fn put_attributes(&mut self, attributes: u8) -> Result<(), AllocError> {
-        self.put_number("bmAttributes", attributes)?;
-        let (transfer, synch, usage) = (
-            transfer_type(attributes),
-            synch_type(attributes),
-            usage_type(attributes),
-        );
-        let rows = format!(in self.alloc;
-            "          Transfer Type            {transfer}\n          Synch Type               {synch}\n          Usage Type               {usage}\n"
-        )?;
-        self.text.put(rows.as_str())
-    }
-
-    /// Puts its packet size behind it.
-    fn put_size(&mut self, size: u16) -> Result<(), AllocError> {
-        let value = format!(in self.alloc; "0x{size:04x}")?;
-        let (packets, bytes) = (packets_of_microframe(size), size % 2048);
-        let note = format!(in self.alloc; "  {packets} {bytes} bytes")?;
-        self.put_row("        ", "wMaxPacketSize", value.as_str(), note.as_str())
-    }
-
-    /// Puts an endpoint descriptor behind it; one of an audio device has 9 bytes.
-    fn put_endpoint(&mut self, bytes: &[u8]) -> Result<(), AllocError> {
-        self.margin = "        ";
-        self.text.put("      Endpoint Descriptor:\n")?;
-        self.put_number("bLength", byte_at(bytes, 0))?;
-        self.put_number("bDescriptorType", byte_at(bytes, 1))?;
-        self.put_address(byte_at(bytes, 2))?;
-        self.put_attributes(byte_at(bytes, 3))?;
-        self.put_size(u16::from_le_bytes([byte_at(bytes, 4), byte_at(bytes, 5)]))?;
-        self.put_number("bInterval", byte_at(bytes, 6))?;
-        if bytes.len() == 9 {
-            self.put_number("bRefresh", byte_at(bytes, 7))?;
-            self.put_number("bSynchAddress", byte_at(bytes, 8))?;
+    /// Puts what stands behind the fields of a descriptor behind it.
+    fn put_rest(&mut self, layout: &Layout, bytes: &[u8]) -> Result<(), AllocError> {
+        let more = bytes.get(layout.length()..).unwrap_or(&[]);
+        match layout.rest {
+            Rest::Unprinted => Ok(()),
+            Rest::Junk => self.put_junk(layout.margin, more),
+            Rest::Counted => self.put_counted(layout.margin, more, byte_at(bytes, 5)),
+            Rest::Interfaces => self.put_interfaces(layout.margin, more),
         }
-        Ok(())
     }
 
-    /// Puts one of the descriptors that a HID descriptor counts behind it.
-    fn put_counted(&mut self, kind: u8, length: u16) -> Result<(), AllocError> {
-        let value = format!(in self.alloc; "{kind}")?;
-        self.put_row(
-            "          ",
-            "bDescriptorType",
-            value.as_str(),
-            hid_type(kind),
-        )?;
-        let value = format!(in self.alloc; "{length}")?;
-        self.put_row("          ", "wDescriptorLength", value.as_str(), "")
-    }
-
-    /// Puts a HID descriptor behind it.
-    fn put_hid(&mut self, bytes: &[u8]) -> Result<(), AllocError> {
-        self.text.put("        HID Device Descriptor:\n")?;
-        self.put_fields("          ", &hid_fields(), bytes)?;
-        for counted in bytes.get(6..).unwrap_or(&[]).chunks_exact(3) {
-            let length = u16::from_le_bytes([byte_at(counted, 1), byte_at(counted, 2)]);
-            self.put_counted(byte_at(counted, 0), length)?;
+    /// Puts the descriptors that a HID descriptor counts behind it, as many as it says, and what stands behind them.
+    fn put_counted(
+        &mut self,
+        margin: &'static str,
+        more: &[u8],
+        count: u8,
+    ) -> Result<(), AllocError> {
+        let counted = 3 * usize::from(count);
+        for one in more.chunks(3).take(usize::from(count)) {
+            self.put_fields(margin, &HID_COUNTED, one)?;
         }
-        Ok(())
+        self.put_junk("        ", more.get(counted..).unwrap_or(&[]))
+    }
+
+    /// Puts the numbers of interfaces behind it, if there are any.
+    fn put_interfaces(&mut self, margin: &str, numbers: &[u8]) -> Result<(), AllocError> {
+        if numbers.is_empty() {
+            return Ok(());
+        }
+        self.text.put(margin)?;
+        self.text.put("bSlaveInterface        ")?;
+        for number in numbers {
+            let number = *number;
+            let text = format!(in self.alloc; " {number}")?;
+            self.text.put(text.as_str())?;
+        }
+        self.text.put("\n")
+    }
+
+    /// Puts bytes behind it that no field has, if there are any.
+    fn put_junk(&mut self, margin: &str, bytes: &[u8]) -> Result<(), AllocError> {
+        if bytes.is_empty() {
+            return Ok(());
+        }
+        self.text.put(margin)?;
+        self.text.put("junk at descriptor end:")?;
+        self.put_bytes(bytes)
     }
 
     /// Puts bytes behind it, each behind a space.
@@ -230,38 +149,64 @@ impl Table {
         self.text.put("\n")
     }
 
-    /// Puts the bytes of a descriptor of another type behind it.
+    /// Puts the bytes of a descriptor that isn't known behind it.
     fn put_other(&mut self, bytes: &[u8]) -> Result<(), AllocError> {
-        let margin = self.margin;
-        self.text.put(margin)?;
-        self.text.put("** UNRECOGNIZED: ")?;
+        self.text.put(self.place.unknown(bytes))?;
         self.put_bytes(bytes)
     }
 
-    /// Puts a descriptor behind it. One that is too short for its type counts as of another.
+    /// Puts what a pipe of a mass storage device carries behind it.
+    fn put_pipe(&mut self, number: u8) -> Result<(), AllocError> {
+        let name = pipe_name(number);
+        let line = format!(in self.alloc; "        {name} (0x{number:02x})\n")?;
+        self.text.put(line.as_str())
+    }
+
+    /// Puts a device descriptor behind it.
+    pub(crate) fn put_device(&mut self, bytes: &[u8]) -> Result<(), AllocError> {
+        if byte_at(bytes, 3) >= 3 {
+            self.unit = SUPER_SPEED_UNIT;
+        }
+        self.put_layout(&device(), bytes)
+    }
+
+    /// Puts a descriptor behind it, by its type and the descriptors that it stands behind. One that is too short for its table is printed as
+    /// far as it goes, and then that it is cut off.
     pub(crate) fn put_piece(&mut self, bytes: &[u8]) -> Result<(), AllocError> {
-        match (byte_at(bytes, 1), bytes.len()) {
-            (CONFIGURATION, 9..) => self.put_configuration(bytes),
-            (INTERFACE, 9..) => self.put_interface(bytes),
-            (ENDPOINT, 7..) => self.put_endpoint(bytes),
-            (ASSOCIATION, 8..) => self.put_association(bytes),
-            (HID, 9..) => self.put_hid(bytes),
-            _ => self.put_other(bytes),
+        let found = layout_of(self.place, bytes);
+        let number = pipe(self.place, bytes);
+        self.place = self.place.behind(bytes);
+        match (found, number) {
+            (Some(layout), _) => self.put_layout(&layout, bytes),
+            (None, Some(number)) => self.put_pipe(number),
+            (None, None) => self.put_other(bytes),
         }
     }
 
-    /// Puts behind it that the bytes from this one on can't be read, for a reason, and what they are.
+    /// Puts behind it that the bytes from this one on aren't read, for a reason, and what they are.
     pub(crate) fn put_stop(
         &mut self,
         at: usize,
-        why: &str,
+        why: StopReason,
         bytes: &[u8],
     ) -> Result<(), AllocError> {
-        let text = format!(in self.alloc; "** byte {at}: {why}")?;
+        let stop = TableStop { at, why };
+        self.stop = Some(stop);
+        let text = format!(in self.alloc; "** {stop}")?;
         self.text.put(text.as_str())?;
         if !bytes.is_empty() {
             self.text.put(":")?;
         }
         self.put_bytes(bytes)
     }
+}
+
+/// How many bytes a descriptor should have: those of its table, of what it counts, and as many as it says itself.
+fn needed(layout: &Layout, bytes: &[u8]) -> usize {
+    let counted = match layout.rest {
+        Rest::Counted => 3 * usize::from(byte_at(bytes, 5)),
+        Rest::Unprinted | Rest::Junk | Rest::Interfaces => 0,
+    };
+    let table = layout.length().saturating_add(counted);
+    table.max(usize::from(byte_at(bytes, 0)))
 }

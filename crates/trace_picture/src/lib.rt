@@ -9,7 +9,7 @@
 //! - `picture.rt`, `column.rt`, `bar.rt`, `spot.rt`, `lane.rt`, `sign.rt`, `caption.rt`, `words.rt`, `escape.rt`: what stands in a picture
 //! - `strip.rt`, `track.rt`, `seen.rt`: where it stands: strips of columns below one another, and the lanes of each
 //! - `paint.rt`, `ground.rt`, `marks.rt`, `legend.rt`: what is written of it, from the lanes to the signs
-//! - `svg.rt`, `style.rt`: how it is written (SVG 1.1)
+//! - `svg.rt`, `style.rt`, `room.rt`: how it is written (SVG 1.1), and how long a number may be there
 //! - `form.rt`, `html.rt`, `look.rt`: the picture alone, or a page that has it
 #![tactic(auto)]
 
@@ -29,6 +29,7 @@ mod look;
 mod marks;
 mod paint;
 mod picture;
+mod room;
 mod seen;
 mod sign;
 mod spot;

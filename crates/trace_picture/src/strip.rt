@@ -115,7 +115,7 @@ impl Strip {
         Ok(strip)
     }
 
-    /// The lanes in which something is there.
+    /// The lanes in which something is there: a sign, a count of places, or a bar.
     fn lanes(
         &self,
         alloc: Global,
@@ -126,6 +126,9 @@ impl Strip {
         for column in columns_in(picture, self.first, self.end) {
             for mark in column.marks.iter() {
                 lanes.insert(mark.spot.lane)?;
+            }
+            for label in column.labels.iter() {
+                lanes.insert(label.spot.lane)?;
             }
         }
         for (_, bar) in seen.bars.iter() {

@@ -1,6 +1,7 @@
 //! A document of SVG 1.1, written shape by shape.
 
 use crate::column::Column;
+use crate::room::room_of;
 use crate::style::{SHAPES, STYLE};
 use crate::words::Words;
 use std::alloc::{AllocError, Global};
@@ -119,12 +120,12 @@ impl Svg {
         self.end()
     }
 
-    /// Words at a point.
+    /// Words at a point, of which a number is shortened to their room.
     pub fn words(&mut self, class: &str, at: (u64, u64), words: Words) -> Result<(), AllocError> {
         self.begin("text", class)?;
         self.pair("x", "y", at)?;
         self.text.push_str(">")?;
-        words.write(&mut self.text)?;
+        words.write_in(room_of(class), &mut self.text)?;
         self.text.push_str("</text>\n")
     }
 

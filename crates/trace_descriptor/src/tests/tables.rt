@@ -118,8 +118,8 @@ Device Descriptor:
       bFirstInterface         0
       bInterfaceCount         2
       bFunctionClass          2 Communications
-      bFunctionSubClass       2
-      bFunctionProtocol       1
+      bFunctionSubClass       2 Abstract (modem)
+      bFunctionProtocol       1 AT-commands (v.25ter)
       iFunction               0
     Interface Descriptor:
       bLength                 9
@@ -128,10 +128,11 @@ Device Descriptor:
       bAlternateSetting       0
       bNumEndpoints           0
       bInterfaceClass         2 Communications
-      bInterfaceSubClass      2
-      bInterfaceProtocol      1
+      bInterfaceSubClass      2 Abstract (modem)
+      bInterfaceProtocol      1 AT-commands (v.25ter)
       iInterface              0
-      ** UNRECOGNIZED:  05 24 00 10 01
+      CDC Header:
+        bcdCDC               1.10
     Interface Descriptor:
       bLength                 9
       bDescriptorType         4
@@ -171,14 +172,14 @@ Device Descriptor:
       bAlternateSetting       0
       bNumEndpoints           1
       bInterfaceClass         3 Human Interface Device
-      bInterfaceSubClass      1
-      bInterfaceProtocol      2
+      bInterfaceSubClass      1 Boot Interface Subclass
+      bInterfaceProtocol      2 Mouse
       iInterface              0
         HID Device Descriptor:
           bLength                 9
           bDescriptorType        33
           bcdHID               1.11
-          bCountryCode            0
+          bCountryCode            0 Not supported
           bNumDescriptors         1
           bDescriptorType        34 Report
           wDescriptorLength      63
@@ -192,7 +193,7 @@ Device Descriptor:
           Usage Type               Data
         wMaxPacketSize     0x0008  1x 8 bytes
         bInterval              10
-        ** UNRECOGNIZED:  04 30 aa bb
+        ** UNRECOGNIZED:  04 31 aa bb
   Configuration Descriptor:
     bLength                 9
     bDescriptorType         2
@@ -264,7 +265,7 @@ fn a_cut_off_descriptor_is_told_where_it_stands(rt: HostRuntime) -> Result<(), F
     let table = description(rt.alloc(), &[18, 1, 0])?;
     assert_eq!(rt;
         table.as_slice(),
-        b"** byte 0: a device descriptor that is cut off: 12 01 00\n".as_slice()
+        b"Device Descriptor:\n  bLength                18\n  bDescriptorType         1\n  ** cut off: 3 of 18 bytes\n** byte 3: the input ends before the device descriptor does\n".as_slice()
     );
     Ok(())
 }
