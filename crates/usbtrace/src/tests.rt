@@ -6,7 +6,6 @@ mod check;
 mod drawing;
 mod edges;
 mod fakes;
-mod halves;
 mod long;
 mod model;
 mod runs;
