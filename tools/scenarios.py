@@ -26,6 +26,50 @@ def differing(folder):
     return str(path)
 
 
+def in_folders(folder):
+    """Words with folders, and what is to come of them."""
+    inner = pathlib.Path(folder) / "all" / "inner"
+    inner.mkdir(parents=True)
+    (inner / "b.txt").write_text("open 1 0\nexpect h1 refused 3\n")
+    (inner.parent / "c.txt").write_text("no line\n")
+    (inner.parent / "notes.md").write_text("no test\n")
+    (inner.parent / "again").symlink_to(inner.parent)
+    told = f"{inner.parent}/c.txt: not tested\n{inner}/b.txt: passed\n1 passed, 1 failed\n"
+    yield ["test", str(inner.parent)], (1, told, f"usbtrace: {inner.parent}/c.txt: line 1 refused\n")
+    none = pathlib.Path(folder) / "none"
+    none.mkdir()
+    without = f"usbtrace: {none} has no file whose name ends in .txt\n"
+    yield ["test", str(none)], (1, f"{none}: not tested\n0 passed, 1 failed\n", without)
+
+
+# What came of a test that differs, one that passes, and one that isn't there, as XML.
+JUNIT = """<?xml version="1.0" encoding="UTF-8"?>
+<testsuites>
+  <testsuite name="usbtrace" tests="3" failures="1" errors="1">
+    <testcase classname="usbtrace" name="{differs}">
+      <failure message="line 2 differs">line 2 differs
+  wanted h1 done
+  got    h1 refused 3
+</failure>
+    </testcase>
+    <testcase classname="usbtrace" name="{passes}"/>
+    <testcase classname="usbtrace" name="./none.txt">
+      <error message="can't be read">can't be read</error>
+    </testcase>
+  </testsuite>
+</testsuites>
+"""
+
+
+def judged_junit(folder):
+    """What is wrong with the XML of three tests; None where nothing is."""
+    differs, passes, file = differing(folder), SCENARIOS[0], pathlib.Path(folder) / "results.xml"
+    ran(["test", "--junit", str(file), differs, passes, "./none.txt"])
+    wanted = JUNIT.format(differs=differs, passes=passes)
+    got = file.read_text() if file.is_file() else "no file"
+    return None if got == wanted else f"usbtrace test --junit:\n  wanted {wanted}\n  got    {got}"
+
+
 def cases(folder):
     """Words, and what is to come of them."""
     passed = "".join(f"{name}: passed\n" for name in SCENARIOS)
@@ -33,7 +77,9 @@ def cases(folder):
     told = f"{differs}: line 2 differs\n  wanted h1 done\n  got    h1 refused 3\n"
     yield ["test", *SCENARIOS], (0, f"{passed}{len(SCENARIOS)} passed, 0 failed\n", "")
     yield ["test", differs, SCENARIOS[0]], (1, f"{told}{SCENARIOS[0]}: passed\n1 passed, 1 failed\n", "")
-    yield ["test", "./none.txt"], (1, "./none.txt: it can't be read\n0 passed, 1 failed\n", "")
+    yield ["test", "./none.txt"], (1, "./none.txt: not tested\n0 passed, 1 failed\n", "usbtrace: ./none.txt can't be read\n")
+    yield ["test", "scenarios/"], (0, f"{passed}{len(SCENARIOS)} passed, 0 failed\n", "")
+    yield from in_folders(folder)
     yield ["run", f"{ROW}.in"], (0, (ROOT / f"{ROW}.out").read_text(), "")
     yield ["run", "./none.txt"], (1, "", "usbtrace: ./none.txt can't be read\n")
     yield ["run", f"{ROW}.in", f"{ROW}.in"], (2, "", "usbtrace: only `test` takes more than one file\n")
@@ -51,6 +97,10 @@ def main(words):
             if got != wanted:
                 print(f"usbtrace {' '.join(asked)}:\n  wanted {wanted}\n  got    {got}")
                 failed = 1
+        wrong = judged_junit(folder)
+        if wrong:
+            print(wrong)
+            failed = 1
     return failed
 
 

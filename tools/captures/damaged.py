@@ -17,6 +17,8 @@ COMMENTS = re.compile(
     r"|\d+ transfers of more than 262144 bytes are left out|\d+ requests of more than 4096 bytes are left out"
     rf"|\d+ transfers are left out: not a bulk or interrupt endpoint of this configuration){FIRST}"
     r"|# ep [0-9a-f]{2}: the first 65536 of \d+ answers \(the next is in frame [1-9]\d*\)")
+# The status of a capture that ends amid a record, and what is told of it.
+CUT, CUT_LINE, CUT_TOLD = 4, b"# the capture ends amid a record\n", b"usbtrace: the capture ends amid a record\n"
 # How long a run may take, in seconds of processor time.
 SECONDS = 10
 # How many times a capture is damaged.
@@ -43,17 +45,18 @@ def judged(machine, capture, count):
     if refused:
         count["refused: " + refused[1].decode().split(" type")[0]] += 1
         return None
-    if it.status not in (0, 1) or it.err:
+    is_cut = it.status == CUT and it.err == CUT_TOLD and it.out.startswith(CUT_LINE)
+    if not is_cut and (it.status not in (0, 1) or it.err):
         return f"ends with status {it.status}: {it.err[:200]!r}"
     lines = it.out.decode(errors="replace").splitlines()
     strange = next((line for line in lines if line.startswith("#") and not COMMENTS.fullmatch(line)), None)
     if strange:
         return f"prints {strange!r}"
-    if (it.status == 0) != any(line.startswith("device ") for line in lines):
+    if (it.status != 1) != any(line.startswith("device ") for line in lines):
         return f"ends with status {it.status}, and prints {lines[:3]}"
     if it.out and machine.usbtrace("check", machine.usbtrace("devices --scenario", capture).out).status:
         return "prints no scenario"
-    count["read"] += it.status == 0
+    count["read"] += it.status != 1
     count["without a device"] += it.status == 1
     return None
 

@@ -1,12 +1,36 @@
-//! Files that are named in the place of standard input, and tests of many files.
+//! The words of a command line, and the files that it names.
 
 use crate::device_options::DeviceOptions;
 use std::alloc::{AllocError, Global};
-use std::io::{Read, Write};
-use std::rt::Files;
-use std::{fs, io};
-use trace_io::{Fault, read_whole};
-use trace_test::{TestOutcome, report, test};
+
+/// The option of `test` that has what came of the tests written into a file.
+const JUNIT: &str = "--junit";
+
+/// Whether what came of tests is to be written into a file.
+#[derive(Clone, Copy)]
+pub enum JunitOption<'a> {
+    /// It isn't.
+    Unasked,
+    /// Into this one.
+    File(&'a str),
+    /// The option has no word behind it, or stands there twice.
+    Bad,
+}
+
+impl<'a> JunitOption<'a> {
+    /// Whether it is asked for.
+    pub fn is_asked(&self) -> bool {
+        !matches!(self, JunitOption::Unasked)
+    }
+
+    /// The option with one more word behind it.
+    fn with(self, word: Option<&'a str>) -> JunitOption<'a> {
+        match (self, word) {
+            (JunitOption::Unasked, Some(file)) => JunitOption::File(file),
+            _ => JunitOption::Bad,
+        }
+    }
+}
 
 /// The words of a command line, and the files that it names.
 #[derive(Drop)]
@@ -19,6 +43,8 @@ pub struct CommandLine<'a> {
     pub is_lenient: bool,
     /// Which device of a capture is meant, and which file says what that lacks.
     pub devices: DeviceOptions<'a>,
+    /// Into which file it is written what came of tests.
+    pub junit: JunitOption<'a>,
 }
 
 /// Whether a word names a file: it has a dot or a slash in it, and is no option.
@@ -31,105 +57,65 @@ fn ask_for_judged(words: &[&str]) -> bool {
     matches!(words, [_, "run" | "left" | "test", ..])
 }
 
-/// Whether they ask for the devices of a capture.
-fn ask_for_devices(words: &[&str]) -> bool {
-    matches!(words, [_, "devices", ..])
+/// Whether a word is an option with a word behind it, of what the words before ask for.
+fn takes_a_word(words: &[&str], text: &str) -> bool {
+    match words {
+        [_, "devices", ..] => DeviceOptions::is_option(text),
+        [_, "test", ..] => text == JUNIT,
+        _ => false,
+    }
 }
 
-/// Tells words and files apart, `--lenient` behind a word for a run that is judged, and the options of `devices` with the words behind them.
-/// The first word is the program's name, whatever is in it.
+impl<'a> CommandLine<'a> {
+    /// A line without words.
+    fn new(alloc: Global) -> CommandLine<'a> {
+        CommandLine {
+            words: Vec::new(alloc),
+            files: Vec::new(alloc),
+            is_lenient: false,
+            devices: DeviceOptions::new(),
+            junit: JunitOption::Unasked,
+        }
+    }
+
+    /// Puts an option with the word behind it, if there is one.
+    fn put_option(&mut self, option: &'a str, word: Option<&'a str>) {
+        if option == JUNIT {
+            self.junit = self.junit.with(word);
+        } else {
+            self.devices.put(option, word);
+        }
+    }
+
+    /// Puts a word that has no option before it.
+    fn put(&mut self, text: &'a str) -> Result<(), AllocError> {
+        if !self.words.is_empty() && names_a_file(text) {
+            self.files.push(text)?;
+        } else if text == "--lenient" && ask_for_judged(self.words.as_slice()) {
+            self.is_lenient = true;
+        } else {
+            self.words.push(text)?;
+        }
+        Ok(())
+    }
+}
+
+/// Tells words and files apart, `--lenient` behind a word for a run that is judged, and the options of `devices` and `test` with the words behind
+/// them. The first word is the program's name, whatever is in it.
 pub fn command_line<'a>(alloc: Global, texts: &[&'a str]) -> Result<CommandLine<'a>, AllocError> {
-    let (mut words, mut files) = (Vec::new(alloc), Vec::new(alloc));
-    let mut is_lenient = false;
-    let mut devices = DeviceOptions::new();
+    let mut line = CommandLine::new(alloc);
     let mut option = None;
     for text in texts {
         if let Some(before) = option.take() {
-            devices.put(before, Some(*text));
-        } else if DeviceOptions::is_option(text) && ask_for_devices(words.as_slice()) {
+            line.put_option(before, Some(*text));
+        } else if takes_a_word(line.words.as_slice(), text) {
             option = Some(*text);
-        } else if !words.is_empty() && names_a_file(text) {
-            files.push(*text)?;
-        } else if *text == "--lenient" && ask_for_judged(words.as_slice()) {
-            is_lenient = true;
         } else {
-            words.push(*text)?;
+            line.put(text)?;
         }
     }
     if let Some(before) = option {
-        devices.put(before, None);
+        line.put_option(before, None);
     }
-    Ok(CommandLine {
-        words,
-        files,
-        is_lenient,
-        devices,
-    })
-}
-
-/// Whether a test is passed.
-fn is_passed(outcome: &TestOutcome, is_lenient: bool) -> bool {
-    match outcome {
-        TestOutcome::Passed => true,
-        TestOutcome::Differs(_) => false,
-        TestOutcome::Unexpected(_) => is_lenient,
-    }
-}
-
-/// Tests what a file has: whether it is passed, and what is told of it.
-fn test_input<R: Read>(
-    alloc: Global,
-    is_lenient: bool,
-    input: &mut R,
-) -> Result<(bool, Vec<u8>), Fault> {
-    let text = read_whole(alloc, input)?;
-    let outcome = test(alloc, text.as_slice())?;
-    let told = report(alloc, &outcome)?;
-    Ok((is_passed(&outcome, is_lenient), told))
-}
-
-/// Tests a file, and tells what came of it behind its name: whether it is passed.
-fn tell_file<R: Files, W: Write>(
-    rt: &R,
-    alloc: Global,
-    is_lenient: bool,
-    file: &str,
-    out: &mut W,
-) -> io::Result<bool> {
-    write!(out, "{file}: ")?;
-    let Ok(mut input) = fs::open(rt, file) else {
-        out.write_all(b"it can't be read\n")?;
-        return Ok(false);
-    };
-    match test_input(alloc, is_lenient, &mut input) {
-        Ok((passed, told)) => {
-            out.write_all(told.as_slice())?;
-            Ok(passed)
-        }
-        Err(fault) => {
-            write!(out, "{fault}\n")?;
-            Ok(false)
-        }
-    }
-}
-
-/// Tests files, and tells what came of each, and how many are passed: whether all are.
-pub fn test_files<R: Files, W: Write>(
-    rt: &R,
-    alloc: Global,
-    is_lenient: bool,
-    files: &[&str],
-    out: &mut W,
-) -> io::Result<bool> {
-    let (mut passed, mut failed) = (0u64, 0u64);
-    for file in files {
-        if tell_file(rt, alloc, is_lenient, file, out)? {
-            passed = passed.saturating_add(1);
-        } else {
-            failed = failed.saturating_add(1);
-        }
-    }
-    write!(out, "{passed} passed, {failed} failed\n")?;
-    out.flush()?;
-    Ok(failed == 0)
+    Ok(line)
 }

@@ -4,8 +4,11 @@
 //!
 //! - `main.rt`: the process's words and streams
 //! - `program.rt`: what the words ask for, over standard input or files
+//! - `files.rt`: the words of a command line, and the files that it names
 //! - `device_options.rt`: the options of `devices` by which one device is meant, and a file that describes it
-//! - `files.rt`: files that are named in the place of standard input, and tests of many files
+//! - `halves.rt`: inputs of which only a part can be printed
+//! - `testing.rt`, `folders.rt`, `junit.rt`: tests of many files, those of folders, and what came of them as XML
+//! - `statuses.rt`, specs/Status: the statuses
 //! - `tests.rt`: whole runs of `trace`: long ones, and lines of every form; streams that fail, and what crosses
 //!   crates
 #![tactic(auto)]
@@ -15,18 +18,21 @@ ghost use denote.Ref.{Bor};
 
 use crate::files::command_line;
 use crate::program::perform;
+use crate::statuses::BAD_WORDS;
 use std::alloc::{AllocError, Global};
 use std::process::ExitCode;
 use std::{env, io};
 
 mod device_options;
 mod files;
+mod folders;
+mod halves;
+mod junit;
 mod program;
+mod statuses;
+mod testing;
 #[cfg(test)]
 mod tests;
-
-/// The status of bad words.
-const BAD_WORDS: u8 = 2;
 
 /// The texts of the words.
 fn texts<'a>(alloc: Global, words: &'a [String]) -> Result<Vec<&'a str>, AllocError>

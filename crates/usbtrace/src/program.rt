@@ -1,79 +1,82 @@
 //! What the words ask for, over standard input or files.
 
+ghost use Rattle.std.specs.Prelude.{◌≡◌};
+
 use crate::device_options::DeviceOptions;
-use crate::files::{CommandLine, test_files};
+use crate::files::{CommandLine, JunitOption};
+use crate::halves::{perform_task, record_one};
+use crate::statuses::{BAD_WORDS, FAILED, status_of, tell_failure};
+use crate::testing::run_tests;
 use std::alloc::Global;
 use std::fs;
-use std::io::{ErrorKind, Read, Write};
+use std::io::{Read, Write};
 use std::rt::Files;
 use std::sync::Wait;
 use std::thread::Threads;
 use trace_io::{Task, read_words};
-use trace_main::{described_devices, trace};
+use trace_main::trace;
 use trace_recorded::{DeviceChoice, TextReader};
-
-/// The status of a run that ended early.
-const FAILED: u8 = 1;
-
-/// The status of bad words.
-const BAD_WORDS: u8 = 2;
 
 /// What `--version` prints.
 const VERSION: &[u8] = b"usbtrace 0.1.0\n";
+
+/// Says that a file can't be read.
+fn refuse_file<E: Write>(file: &str, err: &mut E) -> u8
+    ensures { result ≡ 1 }
+{
+    let _ = write!(err, "usbtrace: {file} can't be read\n");
+    FAILED
+}
+
+/// Prints the version.
+fn print_version<W: Write, E: Write>(out: &mut W, err: &mut E) -> u8 {
+    let printed = match out.write_all(VERSION) {
+        Ok(()) => out.flush(),
+        Err(error) => Err(error),
+    };
+    match printed {
+        Ok(()) => 0,
+        Err(error) => {
+            tell_failure(&error, err);
+            FAILED
+        }
+    }
+}
+
+/// Runs the program on its words and an input.
+fn run_input<T: Threads + Wait + Sync, R: Read, W: Write, E: Write>(
+    rt: &T,
+    alloc: Global,
+    line: &CommandLine<'_>,
+    input: &mut R,
+    out: &mut W,
+    err: &mut E,
+) -> u8 {
+    let words = line.words.as_slice();
+    let asked: Option<Task> = read_words(alloc, words).ok();
+    let status = match asked {
+        Some(task) => perform_task(rt, alloc, words, &task, input, out, err),
+        None => trace(rt, alloc, words, input, out, err),
+    };
+    status_of(status, line.is_lenient)
+}
 
 /// Runs the program on its words and a file. Where the words ask for no task it isn't opened, and no other input is read.
 fn run_file<T: Threads + Wait + Sync + Files, R: Read, W: Write, E: Write>(
     rt: &T,
     alloc: Global,
-    words: &[&str],
+    line: &CommandLine<'_>,
     file: &str,
     input: &mut R,
     out: &mut W,
     err: &mut E,
 ) -> u8 {
-    if read_words(alloc, words).is_err() {
-        return trace(rt, alloc, words, input, out, err);
+    if read_words(alloc, line.words.as_slice()).is_err() {
+        return run_input(rt, alloc, line, input, out, err);
     }
     match fs::open(rt, file) {
-        Ok(mut text) => trace(rt, alloc, words, &mut text, out, err),
-        Err(_) => {
-            let _ = write!(err, "usbtrace: {file} can't be read\n");
-            FAILED
-        }
-    }
-}
-
-/// The status of a run that wrote something else than its scripts expect.
-const UNEXPECTED: u8 = 3;
-
-/// The status, where what a run wrote is only told.
-fn status_of(status: u8, is_lenient: bool) -> u8 {
-    if is_lenient && status == UNEXPECTED {
-        0
-    } else {
-        status
-    }
-}
-
-/// Tests files.
-fn run_tests<T: Files, W: Write, E: Write>(
-    rt: &T,
-    alloc: Global,
-    is_lenient: bool,
-    files: &[&str],
-    out: &mut W,
-    err: &mut E,
-) -> u8 {
-    match test_files(rt, alloc, is_lenient, files, out) {
-        Ok(true) => 0,
-        Ok(false) => FAILED,
-        Err(error) => {
-            // Nobody reads the output any more: he has what he wanted.
-            if error.kind() != ErrorKind::BrokenPipe {
-                let _ = err.write_all(b"usbtrace: input or output failed\n");
-            }
-            FAILED
-        }
+        Ok(mut text) => run_input(rt, alloc, line, &mut text, out, err),
+        Err(_) => refuse_file(file, err),
     }
 }
 
@@ -89,20 +92,19 @@ fn run_described<T: Files, R: Read, W: Write, E: Write>(
     err: &mut E,
 ) -> u8 {
     match files {
-        [] => described_devices(alloc, reader, choice, input, out, err),
+        [] => record_one(alloc, reader, choice, input, out, err),
         [file] => match fs::open(rt, *file) {
-            Ok(mut capture) => described_devices(alloc, reader, choice, &mut capture, out, err),
-            Err(_) => {
-                let _ = write!(err, "usbtrace: {file} can't be read\n");
-                FAILED
-            }
+            Ok(mut capture) => record_one(alloc, reader, choice, &mut capture, out, err),
+            Err(_) => refuse_file(file, err),
         },
         _ => refuse_files(err),
     }
 }
 
 /// Says that there are too many files.
-fn refuse_files<E: Write>(err: &mut E) -> u8 {
+fn refuse_files<E: Write>(err: &mut E) -> u8
+    ensures { result ≡ 2 }
+{
     let _ = err.write_all(b"usbtrace: only `test` takes more than one file\n");
     BAD_WORDS
 }
@@ -139,30 +141,57 @@ fn perform_described<T: Files, R: Read, W: Write, E: Write>(
     }
 }
 
-/// Does what the words ask for, and answers the status. Where they name no file, standard input is read.
-pub fn perform<T: Threads + Wait + Sync + Files, R: Read, W: Write, E: Write>(
+/// Says what stands behind `--junit`, and with it.
+fn refuse_junit<E: Write>(err: &mut E) -> u8
+    ensures { result ≡ 2 }
+{
+    let _ = err.write_all(
+        b"usbtrace: --junit: say once into which file, behind it, and which files are tested\n",
+    );
+    BAD_WORDS
+}
+
+/// Tests the files of a command line.
+fn run_line_tests<T: Files + Alloc + Clone + Drop, W: Write, E: Write>(
     rt: &T,
     alloc: Global,
     line: &CommandLine<'_>,
-    input: &mut R,
     out: &mut W,
     err: &mut E,
 ) -> u8 {
+    let junit = match line.junit {
+        JunitOption::Unasked => None,
+        JunitOption::File(file) => Some(file),
+        JunitOption::Bad => return refuse_junit(err),
+    };
+    run_tests(
+        rt,
+        alloc,
+        line.is_lenient,
+        junit,
+        line.files.as_slice(),
+        out,
+        err,
+    )
+}
+
+/// Does what the words ask for, and answers the status. Where they name no file, standard input is read.
+pub fn perform<
+    T: Threads + Wait + Sync + Files + Alloc + Clone + Drop,
+    R: Read,
+    W: Write,
+    E: Write,
+>(rt: &T, alloc: Global, line: &CommandLine<'_>, input: &mut R, out: &mut W, err: &mut E) -> u8 {
     if let Some(status) = perform_described(rt, alloc, line, input, out, err) {
         return status;
     }
     let (words, files) = (line.words.as_slice(), line.files.as_slice());
     match (words, files) {
-        ([_, "--version" | "-V"], []) => match out.write_all(VERSION) {
-            Ok(()) => 0,
-            Err(_) => FAILED,
-        },
-        (_, []) => status_of(trace(rt, alloc, words, input, out, err), line.is_lenient),
-        ([_, "test"], _) => run_tests(rt, alloc, line.is_lenient, files, out, err),
-        (_, [file]) => status_of(
-            run_file(rt, alloc, words, file, input, out, err),
-            line.is_lenient,
-        ),
+        ([_, "--version" | "-V"], []) => print_version(out, err),
+        ([_, "test"], [_, ..]) => run_line_tests(rt, alloc, line, out, err),
+        _ if line.junit.is_asked() => refuse_junit(err),
+        (_, []) => run_input(rt, alloc, line, input, out, err),
+        (_, [file]) => run_file(rt, alloc, line, file, input, out, err),
         _ => refuse_files(err),
     }
 }

@@ -6,6 +6,7 @@ mod check;
 mod drawing;
 mod edges;
 mod fakes;
+mod halves;
 mod long;
 mod model;
 mod runs;

@@ -133,6 +133,13 @@ impl Output {
     }
 }
 
+impl Output {
+    /// Whether it took this text.
+    pub(crate) fn has(&self, text: &str) -> bool {
+        self.taken.as_slice() == text.as_bytes()
+    }
+}
+
 impl Write for Output {
     fn write(&mut self, buf: &[u8]) -> io::Result<usize> {
         let count = buf.len().min(self.room);
@@ -210,6 +217,16 @@ impl TestOutcome {
         self.status == 0 && self.err.is_empty()
     }
 
+    /// Whether standard error has this text.
+    pub(crate) fn says(&self, err: &str) -> bool {
+        self.err.as_slice() == err.as_bytes()
+    }
+
+    /// What standard output has.
+    pub(crate) fn printed(&self) -> &[u8] {
+        self.out.as_slice()
+    }
+
     /// Whether standard error has this text, and standard output none.
     pub(crate) fn only_says(&self, status: u8, err: &str) -> bool {
         self.is(status, "", err)
@@ -234,7 +251,7 @@ pub(crate) fn run<X: Threads + Wait + Sync>(
 }
 
 /// Runs the program on the words of a command line, over an input.
-pub(crate) fn run_line<X: Threads + Wait + Sync + Files>(
+pub(crate) fn run_line<X: Threads + Wait + Sync + Files + Alloc + Clone + Drop>(
     rt: &X,
     alloc: Global,
     texts: &[&str],
@@ -252,7 +269,7 @@ pub(crate) fn run_line<X: Threads + Wait + Sync + Files>(
 }
 
 /// The same over an input that can't be read.
-pub(crate) fn run_files<X: Threads + Wait + Sync + Files>(
+pub(crate) fn run_files<X: Threads + Wait + Sync + Files + Alloc + Clone + Drop>(
     rt: &X,
     alloc: Global,
     texts: &[&str],

@@ -117,7 +117,7 @@ fn first_to_differ<X: Threads + Wait + Sync>(
 }
 
 /// Whether nothing but this is said of a command line, with this status.
-fn only_says<X: Threads + Wait + Sync + Files>(
+fn only_says<X: Threads + Wait + Sync + Files + Alloc + Clone + Drop>(
     rt: &X,
     alloc: Global,
     texts: &[&str],
@@ -131,7 +131,7 @@ fn only_says<X: Threads + Wait + Sync + Files>(
 }
 
 /// Whether it is told what a run wrote, with this status.
-fn tells<X: Threads + Wait + Sync + Files>(
+fn tells<X: Threads + Wait + Sync + Files + Alloc + Clone + Drop>(
     rt: &X,
     alloc: Global,
     texts: &[&str],

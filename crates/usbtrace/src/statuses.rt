@@ -1,0 +1,54 @@
+//! The statuses with which the program ends.
+
+ghost use Rattle.std.specs.Prelude.{◌≡◌};
+ghost use Rattle.usbtrace.specs.Status.{half_status, lenient_status, tests_status};
+
+use std::io;
+use std::io::{ErrorKind, Write};
+
+/// The status of a run that ended early.
+pub const FAILED: u8 = 1;
+
+/// The status of bad words.
+pub const BAD_WORDS: u8 = 2;
+
+/// The status of a run that wrote something else than its scripts expect.
+const UNEXPECTED: u8 = 3;
+
+/// The status of a run that ended well over an input that ends early.
+const CUT: u8 = 4;
+
+/// The status, where what a run wrote is only told.
+pub fn status_of(status: u8, is_lenient: bool) -> u8
+    ensures { result ≡ lenient_status status is_lenient }
+{
+    if status == UNEXPECTED && is_lenient {
+        0
+    } else {
+        status
+    }
+}
+
+/// The status of a run over an input that may end early.
+pub fn half_status(status: u8, is_cut: bool) -> u8
+    ensures { result ≡ half_status status is_cut }
+{
+    if status == 0 && is_cut { CUT } else { status }
+}
+
+/// The status of tests, of which so many failed.
+pub fn tests_status(failed: u64) -> u8
+    ensures { result ≡ tests_status failed }
+{
+    if failed == 0 { 0 } else { FAILED }
+}
+
+/// Says that a stream failed; nothing where nobody reads the output any more: he has what he wanted.
+pub fn tell_failure<E: Write>(error: &io::Error, err: &mut E) {
+    let told: &[u8] = match error.kind() {
+        ErrorKind::BrokenPipe => return,
+        ErrorKind::OutOfMemory => b"usbtrace: out of memory\n",
+        _ => b"usbtrace: input or output failed\n",
+    };
+    let _ = err.write_all(told);
+}
