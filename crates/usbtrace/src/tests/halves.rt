@@ -24,13 +24,13 @@ fn a_whole_file_of_descriptors_ends_with_0(rt: HostRuntime) -> Result<(), AllocE
 
 #[test]
 fn a_cut_file_of_descriptors_is_printed_and_ends_with_4(rt: HostRuntime) -> Result<(), Fail> {
-    let cut = DEVICE.get(..60).ok_or("fewer than 60 letters")?;
+    let cut = DEVICE.get(..69).ok_or("fewer than 69 letters")?;
     let input = Input::new(cut.as_bytes(), 100);
     let half = run_line(&rt, rt.alloc(), &["usbtrace", "describe"], input)?;
-    let told = "usbtrace: byte 20: the input ends before the configuration does\n";
+    let told = "usbtrace: byte 23: the input ends before the configuration does\n";
     assert!(rt; half.has_status(4));
     assert!(rt; half.says(told));
-    assert!(rt; half.shows("    bDescriptorType         2\n    ** cut off: 2 of 9 bytes\n"));
+    assert!(rt; half.shows("    bNumInterfaces          0\n    ** cut off: 5 of 9 bytes\n"));
     Ok(())
 }
 
