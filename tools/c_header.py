@@ -68,7 +68,7 @@ ENUMS = [
 ANSWERS = {
     "TextComplaint": "complaint", "StepReply": "reply", "SettleProgress": "progress", "NextWork": "next", "EndpointView": "view", "TakenResult": "result",
     "PacketOffer": "offer", "ControlResponse": "response", "Needed": "needed", "DeviceFacts": "device", "AnswerGate": "gate",
-    "DeviceDeparture": "departure", "EndpointFacts": "endpoint",
+    "DeviceDeparture": "departure", "EndpointNumbers": "endpoint",
 }
 NOBODY = """
 /* In place of a handle or a device: it is nobody's, or there is none. */

@@ -4,7 +4,8 @@
     tools/program.py try [NAME ..]    builds usbtrace unproved, or other programs, or tirnouch_c, where their files changed: a minute or two each
     tools/program.py build            builds it proved, as the gate does, crate beside crate: what isn't kept on this machine is proved
     tools/program.py build NAME ..    the same of other crates: a program as bin/NAME, a static library as bin/libNAME.a
-    tools/program.py keep             takes what the gate has just proved and built: usbtrace, check_library and check_random
+    tools/program.py keep             takes what the gate has just proved and built: usbtrace, check_library and check_random; and notes the
+                                      libraries over which `build tirnouch_c` then proves that crate alone
     tools/program.py state            says which usbtrace stands there, on standard error
     tools/program.py state NAME       how another crate was built that stands there, in a word: proved, unproved, trusted, or none
 
@@ -28,6 +29,8 @@ BIN = ROOT / "bin"
 CRATES = ROOT / "crates"
 # The programs that are taken from the gate, which tools/hostile tries.
 KEPT = ("usbtrace", "check_library", "check_random")
+# The static libraries that are built over libraries of the gate.
+OVER_THE_GATE = ("tirnouch_c",)
 # The kit: the folder above that of `rt`.
 KIT = pathlib.Path(shutil.which("rt") or "rt").resolve().parent.parent
 # Words with which a run of a program is short, by which it is built unproved; of others, without words.
@@ -127,20 +130,52 @@ def copy_below(name, folder, leaves_out):
     (folder / ".git").mkdir()
 
 
-def prove_static(name, folder):
+def library(name, folder):
+    """Where the gate, run in a folder, leaves a library that it proved."""
+    return folder / "crates" / name / "out" / "rlib" / f"{name}.rlib"
+
+
+def sum_of_libraries(name):
+    """A sum of the libraries below a crate that stand in this clone; None where one lacks."""
+    made = hashlib.sha256()
+    for it in crate_graph.below(name)[:-1]:
+        files = [it for it in sorted([library(it, ROOT), *library(it, ROOT).rglob("*")]) if it.is_file()]
+        if not files:
+            return None
+        for path in files:
+            made.update(str(path.relative_to(ROOT)).encode() + b"\0" + hashlib.sha256(path.read_bytes()).digest())
+    return made.hexdigest()
+
+
+def noted_libraries(name):
+    return BIN / f"{name}.libraries"
+
+
+def note_libraries(name):
+    """Notes which libraries the gate has just proved, and of which files."""
+    if made := sum_of_libraries(name):
+        noted_libraries(name).write_text(f"{sum_of_files(name)} {made}\n")
+
+
+def stands_on_the_gate(name):
+    """Whether the libraries below a crate are those that the gate proved, of today's files."""
+    noted = noted_libraries(name)
+    return noted.is_file() and noted.read_text().split() == [sum_of_files(name), sum_of_libraries(name)]
+
+
+def prove_static(name, folder, to):
     """Proves and builds a static library over the libraries that were built below a folder: 0, or the prover's status."""
     known, used = crate_graph.lines(), crate_graph.named(name)
     all_below = [it for it in crate_graph.below(name) if it != name]
-    library = lambda it: folder / "crates" / it / "out" / "rlib" / f"{it}.rlib"
     words = [KIT / "bin" / "rattle", "build", "--crate-name", name, "--crate-type", "staticlib", "src/lib.rt"]
     for it in ["std", *(it for it in used if it not in known)]:
         words += ["--extern", f"{it}={KIT}/rlibs/{it}.rlib"]
     for it in used:
-        words += ["--extern", f"{it}={library(it)}"] * (it in known)
-    for it in [KIT / "rlibs", *(library(it).parent for it in all_below)]:
+        words += ["--extern", f"{it}={library(it, folder)}"] * (it in known)
+    for it in [KIT / "rlibs", *(library(it, folder).parent for it in all_below)]:
         words += ["-L", f"dependency={it}"]
     words += ["--antt-project", KIT / "rattle" / "logic" / "antt-project.json", "--logic-built", KIT / "logic_built"]
-    words += ["--links", f"{name}=", "--jobs", "1", "--toolchain", KIT / "toolchain", "-o", folder / f"lib{name}.a"]
+    words += ["--links", f"{name}=", "--jobs", "1", "--toolchain", KIT / "toolchain", "-o", to / f"lib{name}.a"]
     return progress.prove(name, [name], words, sys.stderr, cwd=CRATES / name, quiet=True)
 
 
@@ -151,17 +186,24 @@ def build(name):
     made_of, static = sum_of_files(name), crate_graph.is_static(name)
     with tempfile.TemporaryDirectory(prefix=f"{name}-") as folder:
         folder = pathlib.Path(folder)
-        copy_below(name, folder, {name} if static else set())
-        env = {**os.environ, "RT_JOBS": str(os.cpu_count())}
-        names = [it for it in crate_graph.below(name) if it != name or not static]
-        status = progress.prove(name, names, ["rt", "ci"], sys.stderr, cwd=folder, quiet=True, environment=env)
-        if static:
-            status = status or prove_static(name, folder)
+        if static and stands_on_the_gate(name):
+            status = prove_static(name, ROOT, folder)
+        else:
+            status = prove_below(name, folder, static)
         if status:
             return status
         keep(name, folder / f"lib{name}.a" if static else folder / "crates" / name / "out" / name, "proved", made_of)
     print(f"{place(name)[0].relative_to(ROOT)} is proved", file=sys.stderr)
     return 0
+
+
+def prove_below(name, folder, static):
+    """Proves a crate and those below it in a folder, as the gate does."""
+    copy_below(name, folder, {name} if static else set())
+    env = {**os.environ, "RT_JOBS": str(os.cpu_count())}
+    names = [it for it in crate_graph.below(name) if it != name or not static]
+    status = progress.prove(name, names, ["rt", "ci"], sys.stderr, cwd=folder, quiet=True, environment=env)
+    return status or (prove_static(name, folder, folder) if static else 0)
 
 
 def take_from_gate(name):
@@ -191,7 +233,10 @@ def each(done, names):
 def main(words):
     word, names = (words or [""])[0], words[1:]
     if words == ["keep"]:
-        return each(take_from_gate, KEPT)
+        status = each(take_from_gate, KEPT)
+        for name in OVER_THE_GATE:
+            note_libraries(name)
+        return status
     if words == ["state"]:
         return tell()
     if word not in ("try", "build", "state"):

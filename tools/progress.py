@@ -156,9 +156,9 @@ def prove(name: str, names: List[str], words: Sequence[Word], out: TextIO, cwd: 
         teller.end()
         meter.end()
     table = meter.table()
-    if status == 0:
-        times.keep({it: minutes for it, minutes in table.items() if it in proofs.done})
-    elif quiet:
+    # (what ended well was measured, even if another crate failed)
+    times.keep({it: minutes for it, minutes in table.items() if it in proofs.done})
+    if status and quiet:
         out.writelines(kept[-100:])
     if table:
         print_table(table, out)

@@ -38,7 +38,8 @@ FILE_HEADER, RECORD_HEADER = 24, 16
 # What a handle may do under `live` that a schedule can meet earlier or later.
 CHANGING = (b"close", b"release", b"reset", b"clear", b"cancel")
 CLASSES = ("unharmed", "early", "wrong")
-ENDS = (0, 1, 2)
+# How an undisturbed run may end: well, refused, by bad words, with packets that aren't as expected, or with an input that ends early.
+ENDS = (0, 1, 2, 3, 4)
 NO_MEMORY = b"usbtrace: out of memory\n"
 # How long a run may take: seconds of processor time, and how many times that by the clock, since machines are busy.
 SECONDS, BY_THE_CLOCK = 10, 6

@@ -54,6 +54,10 @@ class Row:
         if NAME in self.input:
             raise BadRow(f"{self.name}.in: `===` stands between rows, and can't stand in one")
 
+    def traced(self):
+        """What `trace` says on standard error, which check_rows calls: why a line of a test is bad the program says behind it."""
+        return re.sub(rb"(?m)^    .*\n", b"", self.errors) if self.words == "test\n" else self.errors
+
     def text(self):
         """The row, as check_rows reads it."""
         return NAME + f"{self.name}\nusbtrace {self.words}".encode() + self.input
@@ -62,7 +66,7 @@ class Row:
         """What check_rows is to print of it: the plain program runs what is run to its end."""
         text = NAME + f"{self.name}\n".encode() + self.output
         if self.status or self.errors:
-            return text + STATUS + f"{self.status}\n".encode() + self.errors
+            return text + STATUS + f"{self.status}\n".encode() + self.traced()
         return text + PLAIN + self.output if re.fullmatch(r"run|alone \d+", self.words.strip()) else text
 
     def differs(self):

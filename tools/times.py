@@ -128,8 +128,10 @@ def page() -> str:
     out += [
         "",
         "For a command that proves crates these are the least minutes on two and on four processors, computed from the minutes of the",
-        "crates. With other work on the machine a proof takes up to twice its processor time. What was built or proved is kept: a second run",
-        "of `make test` takes some minutes, for its tests and programs; the others, except `make c-test`, take no time.",
+        "crates. With other work on the machine, or on a slower one, a proof takes twice its processor time. What was built is kept, so a",
+        "second run of the others, except `make c-test`, takes no time. What was proved is kept by kits whose `rt ci` takes names: with them a",
+        "second `make test` takes some minutes, for its tests and programs, and with others as long as the first. `make c-test` comes behind",
+        "`make c-usb`, which behind `make test` proves `tirnouch_c` alone.",
         "`tools/changed` adds up the minutes of what a change has to try ([CONTRIBUTING.md](CONTRIBUTING.md#only-what-changed)).",
         *([""] + textwrap.wrap(f"Proofs that weren't measured, and count as nothing: {', '.join(unmeasured)}.", 138) if unmeasured else []),
         "",

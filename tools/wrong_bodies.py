@@ -13,6 +13,8 @@ import subprocess
 import sys
 import tempfile
 
+import kit
+
 ROOT = pathlib.Path(__file__).resolve().parent.parent
 KEPT = ROOT / "tools" / "wrong_bodies"
 PLANTS = ROOT / "tools" / "plants"
@@ -73,14 +75,15 @@ def try_all(crates):
     wanted = crates or sorted(it.name for it in KEPT.iterdir() if it.is_dir())
     with tempfile.TemporaryDirectory(prefix="wrong-bodies-") as room:
         copy = pathlib.Path(room) / "copy"
-        leave = shutil.ignore_patterns(".git", "out", "bin", "must-fail")
+        leave = shutil.ignore_patterns(".git", "bin", "must-fail", *(["out"] if kit.proves_by_name() else []))
         shutil.copytree(ROOT, copy, ignore=leave)
         (copy / ".git").mkdir()
         for crate in wanted:
             shutil.copytree(KEPT / crate, copy / "crates" / crate / "must-fail")
         env = {**os.environ, "RT_JOBS": str(os.cpu_count())}
-        # (rt ci takes what this machine has proved before, which rt must-fail doesn't)
-        ran = subprocess.Popen(["rt", "ci", *wanted], cwd=copy, env=env, stdout=subprocess.PIPE, text=True, errors="replace")
+        # (an rt ci that takes names takes what this machine has proved before, which rt must-fail doesn't; else that takes what stands in out/)
+        tries = ["rt", "ci", *wanted] if kit.proves_by_name() else ["rt", "must-fail", *wanted]
+        ran = subprocess.Popen(tries, cwd=copy, env=env, stdout=subprocess.PIPE, text=True, errors="replace")
         bad = 0
         for line in ran.stdout:
             bad += "BAD EDIT" in line

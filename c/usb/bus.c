@@ -135,6 +135,13 @@ static int make_devices(const char *text, size_t length, const char *name)
     return r;
 }
 
+/* The same, of a text that may name files: beside its own file, or in the current folder where that is "". */
+static int make_whole(const char *text, size_t length, const char *name, const char *file)
+{
+    int r = insert_files(&text, &length, name, file);
+    return r ? r : make_devices(text, length, name);
+}
+
 /* A file's bytes; NULL where it can't be read or memory is refused, which is told. */
 static char *read_file(const char *name, size_t *length)
 {
@@ -173,12 +180,12 @@ static int begin_devices(void)
     char numbered[4096];
     size_t length = 0;
     if (process.text)
-        return make_devices(process.text, process.text_length, process.text_name);
+        return make_whole(process.text, process.text_length, process.text_name, "");
     if (!name || !*name)
         return make_devices("", 0, "");
     name = name_of_turn(name, numbered, sizeof numbered);
     process.bus.file_text = read_file(name, &length);
-    return process.bus.file_text ? make_devices(process.bus.file_text, length, name) : LIBUSB_ERROR_OTHER;
+    return process.bus.file_text ? make_whole(process.bus.file_text, length, name, name) : LIBUSB_ERROR_OTHER;
 }
 
 static int begin_trace(const struct beginning *so)
@@ -205,6 +212,7 @@ static void clear_bus(void)
     tirnouch_destroy(&process.bus.core.slot);
     trace_end(&process.bus.core);
     free(process.bus.file_text);
+    free(process.bus.whole_text);
     free(process.bus.trace);
     process.bus = (struct bus){ .stirs = stirs, .settled = stirs };
 }

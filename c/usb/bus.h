@@ -269,7 +269,8 @@ struct bus {
     struct core core;                 /* the one that scripted devices share; */
     struct core *own;                 /* and those that have one device each */
     const char *text;                 /* the devices, as a person wrote them: of tirnouch_plug, or */
-    char *file_text;                  /* of the file, which is the bus's own */
+    char *file_text;                  /* of the file, which is the bus's own; */
+    char *whole_text;                 /* and with the bytes of files that it names, the bus's own too; NULL where it names none */
     size_t text_length;
     char *trace;                      /* the name of the trace's file, the bus's own; NULL for none; */
     unsigned trace_number;            /* and what stands behind it, where it is more than 1 */

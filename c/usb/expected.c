@@ -9,8 +9,9 @@
 /* The word of its first answer, from 0 on. */
 #define SCRIPT 3
 #define CONTROL 6
-/* How many answers there is room for at first. */
+/* How many answers there is room for at first, and how many a line has at most. */
 #define FIRST 8
+#define MOST_ANSWERS 65536
 
 /* Whether a text may have such a word. */
 bool has_expected(const char *text, size_t length)
@@ -23,7 +24,29 @@ static bool is_judged(const struct line *line)
     return (begins(line, "script ") || begins(line, "control ")) && has_expected(line->at, line->length);
 }
 
-/* Copies a line to where it is to stand, each word `a:..` as `a`; how long it is then. */
+/* How often a word stands, as `a:55*3`: the number behind its first star, 1 to 65,536 without leading zeros; 1 where it is none. */
+static uint32_t times_of(const char *word, int length)
+{
+    uint32_t times = 0;
+    const char *star = memchr(word, '*', (size_t)length), *end = word + length;
+    if (!star || star + 1 == end || star[1] == '0')
+        return 1;
+    for (const char *at = star + 1; at < end; at++) {
+        if (*at < '0' || *at > '9' || (times = 10 * times + (uint32_t)(*at - '0')) > MOST_ANSWERS)
+            return 1;
+    }
+    return times;
+}
+
+/* The length of a word without how often it stands. */
+static int length_of_one(const char *word, int length)
+{
+    const char *star = memchr(word, '*', (size_t)length);
+    bool repeats = star && star + 1 < word + length && (times_of(word, length) > 1 || !memcmp(star, "*1", 2));
+    return repeats ? (int)(star - word) : length;
+}
+
+/* Copies a line to where it is to stand, each word `a:..` as `a` with how often it stands; how long it is then. */
 static size_t shorten(char *to, const struct line *line)
 {
     size_t length = 0;
@@ -33,9 +56,13 @@ static size_t shorten(char *to, const struct line *line)
         size_t taken = is_word ? 2 : 1;
         memmove(to + length, at, taken);
         length += taken;
+        const char *word = at + 1;
         at += taken;
         while (is_word && at < end && *at != ' ' && *at != '\r')
             at++;
+        const char *times = is_word ? word + length_of_one(word, (int)(at - word)) : at;
+        memmove(to + length, times, (size_t)(at - times));
+        length += (size_t)(at - times);
     }
     return length;
 }
@@ -148,13 +175,38 @@ static int read_answer(struct judged *judged, const struct place *place, const s
     return it->length > judged->most ? refuse_length(place, line, index, judged->most) : 0;
 }
 
+/* An answer as often as it stands: the bytes of all are those of the first. */
+static int read_copies(struct judged *judged, const struct place *place, const struct line *line, uint32_t index, const char *word,
+                       int length)
+{
+    uint32_t times = times_of(word, length);
+    size_t count = judged->count;
+    int r = read_answer(judged, place, line, index, word, length_of_one(word, length));
+    while (!r && judged->count > count && --times) {
+        struct expected *it = add(judged);
+        if (!it)
+            return LIBUSB_ERROR_NO_MEM;
+        *it = judged->all[count];
+    }
+    return r;
+}
+
+/* Whether a word says that the answer before it stays: nothing more is expected. */
+static bool stays(const char *word, int length)
+{
+    return length == 2 && !memcmp(word, "..", 2);
+}
+
 static int read_answers(struct judged *judged, const struct place *place, const struct line *line, uint32_t index)
 {
     int length, r = 0;
     const char *word = word_of(line->at, (int)line->length, index, &length), *end = line->at + line->length;
     while (word < end && !r) {
         const char *space = memchr(word, ' ', (size_t)(end - word));
-        r = read_answer(judged, place, line, index++, word, (int)((space ? space : end) - word));
+        int size = (int)((space ? space : end) - word);
+        if (!stays(word, size))
+            r = read_copies(judged, place, line, index, word, size);
+        index++;
         word = space ? space + 1 : end;
     }
     return r;

@@ -54,6 +54,9 @@ int read_desk(struct desk *desk);
 void grow(struct growing *text, const char *bytes, size_t length);
 void write_lines(struct growing *to, const char *text, size_t length, const int there[DEVICES], const struct device *rests);
 
+/* inserted.c: bytes of files that a text names */
+int insert_files(const char **text, size_t *length, const char *name, const char *file);
+
 /* sessions.c: a device's own core */
 int begin_own_core(struct device *device, const struct desk *desk);
 void end_own_core(struct device *device);

@@ -12,11 +12,12 @@
     streams        every word: reads and writes that fail, are cut short or interrupted; streams that are closed, full or broken
     sizes          inputs, lines and runs as long as may be, and longer; and what is open and held at the end of a run
     descriptors    `check` and `run`: each beginning of a descriptor, and each byte set to each value
+    linear         every word over texts of two lengths: what it takes grows with the text, and is no more than three times what `run` takes
 
 What is wrong is printed, and the status is 1, but for what known.txt knows. Needs a C compiler.
 
 The modules, from below: runs (how a word is run, and what a run comes to); scenarios (random and damaged texts); memory, again,
-texts, streams, sizes, descriptors (the parts: their cases, and what each has to come to); crowded, followed, refusals, told,
+texts, streams, sizes, descriptors, linear (the parts: their cases, and what each has to come to); crowded, followed, refusals, told,
 sentences, truth (the part of the sentences: its scenarios; the state that entries tell; which calls are refused; a sentence in its place, and
 what each says; and the cases)."""
 import argparse
@@ -34,6 +35,7 @@ sys.path.append(str(pathlib.Path(__file__).resolve().parent.parent))
 
 import again
 import descriptors
+import linear
 import memory
 import sizes
 import streams
@@ -52,6 +54,7 @@ PARTS = {
     "streams": streams.PART,
     "sizes": sizes.PART,
     "descriptors": descriptors.PART,
+    "linear": linear.PART,
 }
 # How the random texts of a part are made.
 SHOWN = {**texts.TEXTS, "truth": truth.scenario}

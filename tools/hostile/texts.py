@@ -19,6 +19,10 @@ LIVE = f"live --rounds {ROUNDS}"
 # How much `check` says of a scenario; and behind that a refused line, its reason, and the end of a callback whose resubmission is refused.
 COUNTS = rb"\d+ devices?, \d+ scripts?, \d+ steps?\n"
 CHECKED = COUNTS + rb"(\d+ .+ \| (h\d+|-) refused \d\n    .+\n(\d+ .+ \| h\d+ done\n)?)*"
+# The words that report packets which aren't as expected, behind all else, with status 3; and what they say.
+JUDGING = ("run", "run --steps", "left")
+REPORTED = rb"(# (line \d+: )?device \d, endpoint [0-9a-f]{2}: .+\n)+"
+REPORT = re.compile(REPORTED + rb"# what was written isn't what the scenario expects: \d+ differences?\n\Z")
 # What the lines of some words look like, where the scenario is good.
 SHAPES = {
     "left": rb"(h\d+ (device \d open|interface \d+ held|ep [0-9a-f]{2} .+)\n)*",
@@ -37,15 +41,22 @@ def first_unlived(given):
     return next((k for k, line in enumerate(given.split(b"\n"), 1) if line.startswith((b"expire ", b"unplug "))), None)
 
 
+def is_test(given):
+    """Whether lines of a text may stand for others, as in a test."""
+    return any(line == b"settle" or line.startswith(b"macro ") or b" *" in line or b" -> " in line for line in given.split(b"\n"))
+
+
 def is_stepwise(steps, run, given):
-    """Whether the lines of `--steps` are those of `run`, each behind the number and the text of a line, in their order."""
-    lines, found, last = given.split(b"\n"), [], 0
+    """Whether the lines of `--steps` are those of `run`, each behind the number and the text of a line, in their order; in a test the text may
+    be another."""
+    lines, found, last, may_differ = given.split(b"\n"), [], 0, is_test(given)
     for line in steps.splitlines():
         number, _, rest = line.partition(b" ")
         at = int(number) if number.isdigit() else 0
-        if not max(last, 1) <= at <= len(lines) or not rest.startswith(lines[at - 1] + b" | "):
+        text, bar, entry = rest.rpartition(b" | ")
+        if not max(last, 1) <= at <= len(lines) or not bar or not (may_differ or text == lines[at - 1]):
             return False
-        found.append(rest[len(lines[at - 1]) + 3 :])
+        found.append(entry)
         last = at
     return found == run.splitlines()
 
@@ -79,11 +90,17 @@ def is_picture(text):
         return False
 
 
+def judged(it):
+    """What a run reports of packets that aren't as expected, and the run without that."""
+    found = REPORT.search(it.out) if it.status == 3 else None
+    return (found[0], it._replace(status=0, out=it.out[: found.start()])) if found else (b"", it)
+
+
 def is_taken(word, it, run, given):
     """Whether a run of a good scenario ended well, and what it printed agrees with what `run` did."""
     if word == LIVE and it.status:
         return has_too_many(it, ROUNDS)
-    if it.status or not (UNFINISHED.fullmatch(it.err) if word == LIVE else it.err == b""):
+    if it.status != 0 or not (UNFINISHED.fullmatch(it.err) if word == LIVE else it.err == b""):
         return False
     if word in SHAPES:
         return re.fullmatch(SHAPES[word], it.out) is not None
@@ -106,13 +123,15 @@ def is_refused(word, it, k):
 
 
 def tried_text(runs, name, given, h):
-    """Every word over a text, which agree on its first bad line."""
-    run = runs.of("run", given)
-    k, unlived = first_refused(run), first_unlived(given)
+    """Every word over a text, which agree on its first bad line, and on the packets that aren't as expected."""
+    whole = runs.of("run", given)
+    k, unlived = first_refused(whole), first_unlived(given)
+    reported, run = judged(whole)
     for word in ("run", "run --steps", f"alone {h}", "left", "draw", "capture", "check", LIVE):
         first = min(filter(None, (k, unlived)), default=None) if word == LIVE else k
-        it = run if word == "run" else runs.of(word, given)
-        right = is_refused(word, it, first) if first else is_taken(word, it, run, given)
+        it = whole if word == "run" else runs.of(word, given)
+        report, rest = judged(it) if word in JUDGING else (reported, it)
+        right = is_refused(word, it, first) if first else report == reported and is_taken(word, rest, run, given)
         yield wrong_unless(right, "refused" if first else "taken", f"{word}: {name}", it)
 
 

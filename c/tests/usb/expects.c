@@ -151,6 +151,37 @@ static void doubled_behind_another(void)
     end_judged();
 }
 
+/* A number behind an answer says how often it is given, and so how often its bytes are expected. */
+static void repeated(void)
+{
+    begin_judged("answers that repeat are expected as often", "script 0 02 a:01*3 a:02* ..\n");
+    put(0x02, "01");
+    put(0x02, "01");
+    put(0x02, "01");
+    put(0x02, "0203");
+    put(0x02, "ff");
+    took(0x02);
+    end_judged();
+    begin_judged("the third of three differs", "script 0 02 a:01*3 a:02\n");
+    put(0x02, "01");
+    put(0x02, "01");
+    put(0x02, "02");
+    put(0x02, "02");
+    took(0x02);
+    end_judged();
+    begin_judged("requests that repeat, and the last answer stays", "control 0 40 01 0000 0000 a:aa*2 a:bb ..\n");
+    ask_to("4001000000000000", "aa");
+    ask_to("4001000000000000", "aa");
+    ask_to("4001000000000000", "bb");
+    ask_to("4001000000000000", "bb");
+    end_judged();
+    begin_judged("one of the requests that repeat differs", "control 0 40 01 0000 0000 a:aa*2 a:bb\n");
+    ask_to("4001000000000000", "aa");
+    ask_to("4001000000000000", "bb");
+    ask_to("4001000000000000", "bb");
+    end_judged();
+}
+
 static void requests(void)
 {
     static const char more[] = "control 0 40 01 0000 0000 a:aabb a a:\ncontrol 0 40 01 * 0000 a:cc*\ncontrol 0 c0 * * * d:01\n";
@@ -305,6 +336,7 @@ int main(void)
     lost_and_doubled();
     doubled_behind_another();
     requests();
+    repeated();
     two_endpoints();
     anew();
     absent();

@@ -5,7 +5,7 @@ use crate::expect::present;
 use anyhow::Result;
 use bitflags::Flags as _;
 use std::alloc::{AllocError, Global};
-use trace_capture::{Recorder, append_all, file_header};
+use trace_capture::{CaptureRecorder, append_all, file_header};
 use trace_recorded::{
     Endianness, EventHeader, RecordedEnd, RecordedEvent, RecordedTransfer, answers_of, event_of,
 };
@@ -103,7 +103,7 @@ fn records(alloc: Global) -> Result<Vec<u8>> {
         dev: present(DeviceNo::new(0), "device 0")?,
     };
     let mut out = Vec::new(alloc);
-    let mut recorder = Recorder::new(alloc);
+    let mut recorder = CaptureRecorder::new(alloc);
     let events = recorder.device(1, cast.dev, &TWO_INTERFACES)?;
     append_all(events.as_slice(), &mut out)?;
     for line in 3..14_u64 {
@@ -115,7 +115,7 @@ fn records(alloc: Global) -> Result<Vec<u8>> {
 /// Records the step of a line.
 fn record(
     alloc: Global,
-    recorder: &mut Recorder,
+    recorder: &mut CaptureRecorder,
     cast: &Cast,
     line: u64,
     out: &mut Vec<u8>,

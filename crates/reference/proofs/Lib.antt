@@ -1,5 +1,8 @@
 pub mod Walks
 mod LineWalks
+mod Opens
+mod Pieces
+mod GoingOn
 mod StandIns
 mod Fronts
 mod Received

@@ -1,4 +1,5 @@
 pub mod Moved
+pub mod Progress
 pub mod Laws
 pub mod Tables
 pub mod System

@@ -1,5 +1,5 @@
 -- The packets that a device's answer moves.
-use Rattle.std.specs.Prelude.{ℕ, Bool, true, false, List, [], ◌++◌, drop, length, Option, Some, None}
+use Rattle.std.specs.Prelude.{ℕ, Bool, true, false, List, [], ◌∷◌, ◌++◌, drop, length, Option, Some, None}
 use Rattle.std.specs.Option.{unwrap_or}
 use Rattle.usb_model.specs.declared.endpoint.Endpoint.{Endpoint}
 use Rattle.usb_model.specs.declared.endpoint.EndpointState.{EndpointState}
@@ -7,8 +7,15 @@ use Rattle.usb_model.specs.declared.endpoint.EndpointState.TheVariants.{Running}
 use Rattle.usb_model.specs.declared.item.Item.{Item}
 use Rattle.usb_model.specs.Endpoint.{first_waiting, outcome_of}
 use Rattle.usb_model.specs.declared.outcome.Outcome.{Outcome}
+use Rattle.usb_model.specs.declared.response.Response.{Response}
+use Rattle.usb_model.specs.declared.response.Response.TheVariants.{Data}
 use Rattle.usb_model.specs.Endpoint.Packets.{open_with, outcome}
 use Rattle.usb_model.specs.Endpoint.Serve.{next_answer}
+
+-- the packet for the host that answers begin with, if they do
+abbrev pub data_of : List Response → List (List ℕ)
+data_of (Data b ∷ xs) = b ∷ []
+data_of _ = []
 
 -- how far item x has come when it has taken the answer
 abbrev pub outcome_after : ℕ → Endpoint → Item → Outcome

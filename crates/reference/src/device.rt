@@ -3,12 +3,15 @@
 ghost use Rattle.std.specs.Prelude.{◌≡◌, ◌-◌, ◌||◌, false, [], ◌∷◌, ◌++◌, drop, IfOk, if◌then◌else◌};
 ghost use Rattle.usb_model.specs.declared.reply.Reply.TheVariants as reply;
 ghost use Rattle.usb_model.specs.Endpoint.Packets.{count_of};
+ghost use Rattle.usb_model.specs.Endpoint.{with_first};
 ghost use Rattle.usb_model.specs.Endpoint.Status.{halts};
+ghost use Rattle.reference.specs.Progress.{GoesOn};
 ghost use Rattle.usb_model.specs.Endpoint.Serve.{next_answer, is_stall, is_no_packet, acknowledged, answered, serve_gone, serve_first, serve};
 
 use crate::line::{take_first, with_first};
 use crate::outcome::{outcome, outcome_of};
 use crate::packet::past;
+use crate::progress::{Progress, bytes_now, progress_of, sent_now};
 use std::alloc::{AllocError, Global};
 use usb_model::completion::{TRANSACTION_ERROR, halts};
 use usb_model::{
@@ -58,8 +61,73 @@ fn serve_gone(
 }
 
 /// The first waiting transfer takes the next answer of a device that is there.
-#[tactic(auto, unfolding(usb_model::specs::Endpoint::Serve::serve_first, usb_model::specs::Endpoint::Serve::serve_by))]
 fn serve_first(
+    alloc: Global,
+    endpoint: Endpoint,
+    size: u16,
+    item: Item,
+) -> Result<EndpointEffect, AllocError>
+    ensures { IfOk result (λ d. d ≡ serve_first size false endpoint EndpointState.Running (Some item)) }
+{
+    match progress_of(&endpoint, size, &item) {
+        Some(progress) => serve_on(alloc, endpoint, size, item, progress),
+        None => serve_by_share(alloc, endpoint, size, item),
+    }
+}
+
+/// It takes an answer that leaves it open: none of those that it took is looked at.
+fn serve_on(
+    alloc: Global,
+    endpoint: Endpoint,
+    size: u16,
+    item: Item,
+    progress: Progress,
+) -> Result<EndpointEffect, AllocError>
+    requires { GoesOn size endpoint item progress }
+    ensures { IfOk result (λ d. d ≡ serve_first size false endpoint EndpointState.Running (Some item)) }
+{
+    let (n, size) = (item.n, usize::from(size));
+    let sent = Outcome::open_with(sent_now(alloc, &item.request, size, progress)?);
+    let bytes = bytes_now(&item.request, size, progress, &sent)?;
+    let answers = next_answer(alloc, &endpoint)?;
+    let reply = said(n, answers.as_slice(), bytes);
+    let endpoint = gone_on(endpoint, item, answers, sent.packets)?;
+    Ok(EndpointEffect::only_says(alloc, endpoint, reply))
+}
+
+/// What is said of a transfer that goes on, of which so many bytes moved.
+fn said(n: u64, answers: &[Response], bytes: u32) -> Reply
+    ensures { result ≡ (if is_no_packet answers.now then reply.Nak n else reply.Moved n bytes) }
+{
+    if is_no_packet(answers) {
+        Reply::Nak { n }
+    } else {
+        Reply::Moved { n, bytes }
+    }
+}
+
+/// The endpoint after its first waiting transfer took these answers, and its device received these packets.
+fn gone_on(
+    mut endpoint: Endpoint,
+    item: Item,
+    answers: Script,
+    sent: Sequence<Bytes>,
+) -> Result<Endpoint, AllocError>
+    ensures { IfOk result (λ e. e ≡ record endpoint {
+      line = with_first (record item { share = item.share ++ answers }) endpoint.line;
+      script_left = drop 1 endpoint.script_left;
+      packets_received = endpoint.packets_received ++ sent;
+    }) }
+{
+    endpoint.line = with_first(endpoint.line, with_answers(item, answers)?);
+    endpoint.script_left.pass_first();
+    endpoint.packets_received = endpoint.packets_received.append(sent)?;
+    Ok(endpoint)
+}
+
+/// It takes an answer, and what comes of it is read off all that it took.
+#[tactic(auto, unfolding(usb_model::specs::Endpoint::Serve::serve_first, usb_model::specs::Endpoint::Serve::serve_by))]
+fn serve_by_share(
     alloc: Global,
     endpoint: Endpoint,
     size: u16,
@@ -133,7 +201,7 @@ fn answered(
     let taken = acknowledged(alloc, &item.request.body, before, after)?;
     endpoint.line = with_first(endpoint.line, item);
     if !endpoint.device_halted {
-        endpoint.script_left = past_first(endpoint.script_left);
+        endpoint.script_left.pass_first();
     }
     endpoint.packets_received = endpoint.packets_received.append(taken)?;
     Ok(endpoint)
@@ -160,17 +228,6 @@ fn with_answers(mut item: Item, answers: Script) -> Result<Item, AllocError>
     Ok(item)
 }
 
-/// A script behind its first answer.
-fn past_first(script: Script) -> Script
-    ensures { result ≡ drop 1 script }
-{
-    let mut answers = script.into_vec();
-    if !answers.is_empty() {
-        drop(answers.remove(0));
-    }
-    Sequence::from_vec(answers)
-}
-
 /// Whether the answer stalls.
 fn is_stall(answers: &[Response]) -> bool
     ensures { result ≡ is_stall answers.now }
@@ -194,13 +251,8 @@ fn moved(
 ) -> Result<Reply, AllocError>
     ensures { IfOk result (λ r. r ≡ (if is_no_packet answers.now then reply.Nak n else reply.Moved n (count_of after.now - count_of before.now))) }
 {
-    if is_no_packet(answers) {
-        return Ok(Reply::Nak { n });
-    }
-    Ok(Reply::Moved {
-        n,
-        bytes: after.count()?.saturating_sub(before.count()?),
-    })
+    let bytes = after.count()?.saturating_sub(before.count()?);
+    Ok(said(n, answers, bytes))
 }
 
 /// The packets for the device that were acknowledged now: those of the outcome after it, and not before it.

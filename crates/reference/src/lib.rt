@@ -11,6 +11,7 @@
 //!   what the share did
 //! - `result.rt`: what a callback is given
 //! - `line.rt`: which transfer of the line is meant, and what is left behind it
+//! - `progress.rt`, specs/Progress: how far a transfer comes by an answer that leaves it open, by what its answers have in common
 //! - `device.rt`: `serve`: a device answers one packet
 //! - `moved.rt`, specs/Moved: the packets that move then
 //! - `laws.rt`, specs/Laws: what these are to the device
@@ -41,6 +42,7 @@
 //! - `serve`, `command`, `deliver`, `submit`, `set_ask`, `unhalt`: where memory is found, the
 //!   effect at the endpoint is that of the definition of the same subject, for every endpoint, packet size and news
 //! - `moved::packets_moved`: the packets of the definition: those of the outcome behind the answer that aren't of the one before
+//! - `progress::stays_open`: true only where the outcome with the next answer is open
 //! - `laws::moved`: of a transfer that writes, the device receives the packets that move, and no other
 //!
 //! - `System::new`, `System::turn`: where memory is found, a system is the new world, and a step
@@ -83,6 +85,7 @@ pub mod moved;
 mod outcome;
 mod packet;
 mod plan_run;
+pub mod progress;
 mod quiet;
 mod renewal;
 mod result;

@@ -1,14 +1,16 @@
 //! The packets that a device's answer moves.
 
-ghost use Rattle.std.specs.Prelude.{◌≡◌, ◌++◌, IfOk};
-ghost use Rattle.reference.specs.Moved.{outcome_after, packets_moved, packets_of_answer};
+ghost use Rattle.std.specs.Prelude.{◌≡◌, ◌++◌, take, IfOk};
+ghost use Rattle.reference.specs.Moved.{data_of, outcome_after, packets_moved, packets_of_answer};
+ghost use Rattle.reference.specs.Progress.{GoesOn};
 ghost use Rattle.usb_model.specs.Endpoint.Serve.{next_answer};
 
 use crate::line::first_waiting;
 use crate::outcome::{outcome, outcome_of};
 use crate::packet::past;
+use crate::progress::{Progress, progress_of, sent_now};
 use std::alloc::{AllocError, Global};
-use usb_model::{Bytes, Endpoint, EndpointState, Item, Outcome, Response};
+use usb_model::{Body, Bytes, Endpoint, EndpointState, Item, Outcome, Response};
 
 /// The answers that a transfer will have taken when it has taken the next.
 fn share_after(alloc: Global, endpoint: &Endpoint, item: &Item) -> Result<Vec<Response>, AllocError>
@@ -38,8 +40,8 @@ fn outcome_after(
     Ok(after.unwrap_or(Outcome::open_with(Vec::new(alloc))))
 }
 
-/// The packets that will have moved then, and haven't yet.
-fn packets_of_answer(
+/// The packets that will have moved then, and haven't yet, read off all answers.
+fn packets_by_share(
     alloc: Global,
     endpoint: &Endpoint,
     size: u16,
@@ -50,6 +52,49 @@ fn packets_of_answer(
     let before = outcome_of(alloc, size, item)?;
     let after = outcome_after(alloc, endpoint, size, item)?;
     Vec::from_clones(alloc, past(after.packets.as_slice(), before.packets.len()))
+}
+
+/// The packet for the host that comes now, if one does.
+fn data_now(alloc: Global, answers: &[Response]) -> Result<Vec<Bytes>, AllocError>
+    ensures { IfOk result (λ packets. packets.items ≡ data_of (take 1 answers.now)) }
+{
+    let mut packets = Vec::new(alloc);
+    if let [Response::Data(bytes), ..] = answers {
+        packets.push(bytes.clone()?)?;
+    }
+    Ok(packets)
+}
+
+/// The packets that an answer moves which leaves the transfer open: none of those that it took is looked at.
+fn packets_on(
+    alloc: Global,
+    endpoint: &Endpoint,
+    size: u16,
+    item: &Item,
+    progress: Progress,
+) -> Result<Vec<Bytes>, AllocError>
+    requires { GoesOn size endpoint.now item.now progress }
+    ensures { IfOk result (λ packets. packets.items ≡ packets_of_answer size endpoint.now item.now) }
+{
+    match &item.request.body {
+        Body::In(_) => data_now(alloc, endpoint.script_left.as_slice()),
+        Body::Out(_) => sent_now(alloc, &item.request, usize::from(size), progress),
+    }
+}
+
+/// The packets that will have moved then, and haven't yet.
+fn packets_of_answer(
+    alloc: Global,
+    endpoint: &Endpoint,
+    size: u16,
+    item: &Item,
+) -> Result<Vec<Bytes>, AllocError>
+    ensures { IfOk result (λ packets. packets.items ≡ packets_of_answer size endpoint.now item.now) }
+{
+    match progress_of(endpoint, size, item) {
+        Some(progress) => packets_on(alloc, endpoint, size, item, progress),
+        None => packets_by_share(alloc, endpoint, size, item),
+    }
 }
 
 /// The packets that move, either way, where the device answers at this endpoint, whose packets have at most so many

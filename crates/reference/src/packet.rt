@@ -69,6 +69,21 @@ fn first_pieces(
     Ok(pieces)
 }
 
+/// The pieces between two of their number.
+#[tactic(auto, using(crate::proofs::Pieces::between))]
+pub(crate) fn pieces_between(
+    alloc: Global,
+    size: usize,
+    from: usize,
+    to: usize,
+    bytes: &[u8],
+) -> Result<Vec<Bytes>, AllocError>
+    ensures { (k : ℕ) → to ≤ suc k → IfOk result (λ v. v.items ≡ drop from (take to (cut size k bytes.now))) }
+{
+    let front = from.checked_mul(size).ok_or(AllocError)?;
+    first_pieces(alloc, size, to.saturating_sub(from), past(bytes, front))
+}
+
 /// A copy of the first bytes, up to this many.
 fn first_piece(alloc: Global, size: usize, bytes: &[u8]) -> Result<Bytes, AllocError>
     ensures { IfOk result (λ piece. piece ≡ take size bytes.now) }

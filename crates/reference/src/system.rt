@@ -13,8 +13,8 @@ use crate::renewal::Renewed;
 use crate::table::Table;
 use std::alloc::{AllocError, Global};
 use usb_model::{
-    DeviceNo, Endpoint, EndpointState, EpAddr, Handle, Name, News, Order, Sequence, Setup, Tagged,
-    TransferResult,
+    DeviceNo, Endpoint, EndpointState, EpAddr, Handle, Name, News, Order, ScriptLeft, Sequence,
+    Setup, Tagged, TransferResult,
 };
 
 /// What is kept of all handles and devices; contracts see the definitions' world, by `world_of`.
@@ -186,7 +186,7 @@ pub(crate) fn placeholder(alloc: Global) -> Endpoint
 {
     Endpoint {
         line: Sequence::new(alloc),
-        script_left: Sequence::new(alloc),
+        script_left: ScriptLeft::new(alloc),
         device_halted: false,
         packets_received: Sequence::new(alloc),
         state: EndpointState::Running,

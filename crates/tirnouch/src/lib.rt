@@ -71,7 +71,9 @@ pub use usb_device::{BoxedDevice, Device, TableDevice};
 pub use usb_journal::{
     Journal, Naming, Outgoing, Place, Receipt, RecordError, Recorder, Row, Unrecorded,
 };
-pub use usb_library::{Answered, CALLERS, Caller, Ended, Library, Missing, Opening, Submitted};
+pub use usb_library::{
+    Answered, CALLERS, Caller, Ended, Library, MissingCallers, Opening, Submitted,
+};
 pub use usb_model::{
     Body, Bytes, DeviceNo, Entry, EpAddr, Flags, Kind, Name, Refused, Reply, Request, Response,
     Returned, Rule, Script, Sequence, Status, StatusSet, Step, Verdict,

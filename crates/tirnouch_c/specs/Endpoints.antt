@@ -7,7 +7,7 @@ use Rattle.usb_model.specs.declared.request.Kind.TheVariants.{Bulk, Control, Int
 use Rattle.usb_model.specs.declared.setup.EndpointInfo.{EndpointInfo}
 use Rattle.usb_model.specs.Setup.{Setup, endpoints_of, interfaces_of}
 use Rattle.usb_model.specs.World.{World}
-use Rattle.tirnouch_c.specs.declared.endpoints.EndpointFacts.{EndpointFacts}
+use Rattle.tirnouch_c.specs.declared.endpoints.EndpointNumbers.{EndpointNumbers}
 use Rattle.tirnouch_c.specs.declared.session.Session.{Session}
 use Rattle.tirnouch_c.specs.Facts.{AnswersWith, Gives}
 
@@ -19,7 +19,7 @@ kind_number Bulk = 2
 kind_number Interrupt = 3
 
 -- what a configuration says of an endpoint, in numbers
-abbrev pub endpoint_numbers : EndpointInfo → EndpointFacts
+abbrev pub endpoint_numbers : EndpointInfo → EndpointNumbers
 endpoint_numbers x = record { address = x.address; interface = x.interface; transfer_type = kind_number x.kind; packet_size = x.packet_size }
 
 -- the interface of an index, of the device that is set up
@@ -27,5 +27,5 @@ abbrev pub HasInterface : (dev i : ℕ) → ℤ → Session → Type 0
 HasInterface dev i answer s = (setup : Setup) (w : World) → ShowsWorld setup s.core w → AnswersWith (slice_get (interfaces_of setup dev) i) answer
 
 -- and the endpoint
-abbrev pub HasEndpoint : (dev i : ℕ) → ℤ → (old new : EndpointFacts) → Session → Type 0
+abbrev pub HasEndpoint : (dev i : ℕ) → ℤ → (old new : EndpointNumbers) → Session → Type 0
 HasEndpoint dev i answer old new s = (setup : Setup) (w : World) → ShowsWorld setup s.core w → Gives (option_map endpoint_numbers (slice_get (endpoints_of setup dev) i)) answer old new

@@ -1,7 +1,7 @@
 -- What is asked of numbers that may be no device's.
 use Rattle.std.specs.Prelude.{◌≡◌, ℕ, ℤ, pos, List, Option, Some, None}
 use Rattle.std.specs.Option.{option_map}
-use Rattle.tirnouch_c.specs.declared.endpoints.EndpointFacts.{EndpointFacts}
+use Rattle.tirnouch_c.specs.declared.endpoints.EndpointNumbers.{EndpointNumbers}
 use Rattle.tirnouch_c.specs.declared.feeds.PacketOffer.{PacketOffer}
 use Rattle.tirnouch_c.specs.declared.reads.EndpointView.{EndpointView}
 use Rattle.tirnouch_c.specs.declared.reads.NextWork.{NextWork}
@@ -52,9 +52,9 @@ abbrev pub HasInterfaceBy : (dev i : ℕ) → ℤ → Session → Type 0
 HasInterfaceBy dev i answer s = HasInterfaceIf (device_by dev) i answer s
 
 -- an endpoint of it
-abbrev pub HasEndpointIf : Option ℕ → (i : ℕ) → ℤ → (old new : EndpointFacts) → Session → Type 0
+abbrev pub HasEndpointIf : Option ℕ → (i : ℕ) → ℤ → (old new : EndpointNumbers) → Session → Type 0
 HasEndpointIf None i answer old new s = (answer ≡ out_of_range) × (new ≡ old)
 HasEndpointIf (Some dev) i answer old new s = HasEndpoint dev i answer old new s
 
-abbrev pub HasEndpointBy : (dev i : ℕ) → ℤ → (old new : EndpointFacts) → Session → Type 0
+abbrev pub HasEndpointBy : (dev i : ℕ) → ℤ → (old new : EndpointNumbers) → Session → Type 0
 HasEndpointBy dev i answer old new s = HasEndpointIf (device_by dev) i answer old new s

@@ -13,7 +13,7 @@ use usb_model::{DeviceNo, EndpointInfo, Kind};
 /// An endpoint of a device, by the first setting of its interface (USB 2.0, 9.6.6).
 #[repr(C)]
 #[derive(Clone, Copy, Drop)]
-pub struct EndpointFacts {
+pub struct EndpointNumbers {
     /// Its address.
     pub address: u8,
     /// The number of its interface.
@@ -36,12 +36,12 @@ fn kind_number(kind: Kind) -> u8
     }
 }
 
-impl EndpointFacts {
+impl EndpointNumbers {
     /// The same in numbers.
-    fn of(info: &EndpointInfo) -> EndpointFacts
+    fn of(info: &EndpointInfo) -> EndpointNumbers
         ensures { result ≡ endpoint_numbers info.now }
     {
-        EndpointFacts {
+        EndpointNumbers {
             address: info.address.address(),
             interface: info.interface,
             transfer_type: kind_number(info.kind),
@@ -95,13 +95,13 @@ pub fn interface(session: &Session, dev: DeviceNo, i: usize) -> i32
 }
 
 /// A device's endpoint of this index; NotFound past the last.
-pub fn endpoint(session: &Session, dev: DeviceNo, i: usize, facts: &mut EndpointFacts) -> i32
+pub fn endpoint(session: &Session, dev: DeviceNo, i: usize, facts: &mut EndpointNumbers) -> i32
     ensures { HasEndpoint dev i result facts.old facts.new session.now }
 {
     match info_at(endpoints_of(session, dev), i) {
         None => NOT_FOUND,
         Some(info) => {
-            *facts = EndpointFacts::of(&info);
+            *facts = EndpointNumbers::of(&info);
             0
         }
     }

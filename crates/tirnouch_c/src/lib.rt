@@ -91,7 +91,7 @@ mod submission;
 mod turn;
 
 pub use complaints::TextComplaint;
-pub use endpoints::EndpointFacts;
+pub use endpoints::EndpointNumbers;
 pub use facts::{AnswerGate, DeviceDeparture, DeviceFacts};
 pub use feeds::PacketOffer;
 pub use held::{Held, Slot};

@@ -8,7 +8,7 @@ ghost use Rattle.tirnouch_c.specs.Facts.{Departs, Drives, HasAnswers, HasFacts, 
 ghost use Rattle.tirnouch_c.specs.Questions.{HasEndpointBy, HasInterfaceBy, LooksBy, OffersBy, PendsBy, TakenBy, after};
 ghost use Rattle.tirnouch_c.specs.Requests.{needs_numbers};
 
-use crate::endpoints::EndpointFacts;
+use crate::endpoints::EndpointNumbers;
 use crate::exports::{INVALID, NO_SESSION, device};
 use crate::facts::{AnswerGate, DeviceDeparture, DeviceFacts};
 use crate::feeds::PacketOffer;
@@ -287,7 +287,7 @@ pub extern "C" fn tirnouch_interface(alloc: Global, slot: &mut Slot, dev: u8, i:
 }
 
 /// An endpoint of a device of a number that may be none.
-fn endpoint_in(session: &Session, dev: u8, i: usize, endpoint: &mut EndpointFacts) -> i32
+fn endpoint_in(session: &Session, dev: u8, i: usize, endpoint: &mut EndpointNumbers) -> i32
     ensures { HasEndpointBy dev i result endpoint.old endpoint.new session.now }
 {
     match device(dev) {
@@ -304,7 +304,7 @@ pub extern "C" fn tirnouch_endpoint(
     slot: &mut Slot,
     dev: u8,
     i: usize,
-    endpoint: &mut EndpointFacts,
+    endpoint: &mut EndpointNumbers,
 ) -> i32
     ensures { ReadsSlot slot.old.held.value slot.new.held.value result (HasEndpointBy dev i result endpoint.old endpoint.new) }
 {

@@ -12,7 +12,7 @@ use Rattle.usb_model.specs.declared.reply.Returned.{Returned}
 use Rattle.usb_model.specs.declared.entry.Entry.{Entry}
 use Rattle.usb_model.specs.World.Journal.{Place}
 use Rattle.trace_capture.specs.declared.control_setup.ControlSetup.{ControlSetup}
-use Rattle.trace_capture.specs.declared.event.Event.{Event}
+use Rattle.trace_capture.specs.declared.event.CaptureEvent.{CaptureEvent}
 use Rattle.trace_capture.specs.declared.transfer.Tracked.{Tracked}
 use Rattle.trace_capture.specs.Control.{control_events, control_submission, device_events, get_configuration, set_configuration, total_length, configuration_value}
 use Rattle.trace_capture.specs.Transfer.{submission}
@@ -20,23 +20,23 @@ use Rattle.trace_capture.specs.Events.{Recording, DeviceLine, nothing_recorded, 
 use Rattle.trace_capture.specs.Laws.{AreAnswers}
 
 -- the submission of a transfer stands among these events, from whatever line
-abbrev pub Stands : List Event → Tracked → Type 0
+abbrev pub Stands : List CaptureEvent → Tracked → Type 0
 Stands events x = (line : ℕ) × Contains events (submission line x)
 
 -- those of all that are kept do
-abbrev pub AllStand : List Event → List Tracked → Type 0
+abbrev pub AllStand : List CaptureEvent → List Tracked → Type 0
 AllStand events tracked = AllByRecursion (Stands events) tracked
 
 -- more events behind these take none away
-stand_on : (events more : List Event) (tracked : List Tracked) → AllStand events tracked → AllStand (events ++ more) tracked
+stand_on : (events more : List CaptureEvent) (tracked : List Tracked) → AllStand events tracked → AllStand (events ++ more) tracked
 stand_on events more [] all = tt
 stand_on events more (x ∷ xs) all = ((all.0.0, Contains-append_left events more (submission all.0.0 x) all.0.1), stand_on events more xs all.1)
 
-one_more : (events : List Event) (tracked : List Tracked) (x : Tracked) → AllStand events tracked → Stands events x → AllStand events (tracked ++ x ∷ [])
+one_more : (events : List CaptureEvent) (tracked : List Tracked) (x : Tracked) → AllStand events tracked → Stands events x → AllStand events (tracked ++ x ∷ [])
 one_more events [] x all there = (there, tt)
 one_more events (y ∷ ys) x all there = (all.0, one_more events ys x all.1 there)
 
-of_some : (events : List Event) (test : Tracked → Bool) (tracked : List Tracked) → AllStand events tracked → AllStand events (filter test tracked)
+of_some : (events : List CaptureEvent) (test : Tracked → Bool) (tracked : List Tracked) → AllStand events tracked → AllStand events (filter test tracked)
 of_some events test [] all = tt
 of_some events test (x ∷ xs) all = by_test (test x) (of_some events test xs all.1)
   where
@@ -44,7 +44,7 @@ of_some events test (x ∷ xs) all = by_test (test x) (of_some events test xs al
     by_test true others = (all.0, others)
     by_test false others = others
 
-with_codes : (events : List Event) (h n code : ℕ) (tracked : List Tracked) → AllStand events tracked → AllStand events (map (with_code h n code) tracked)
+with_codes : (events : List CaptureEvent) (h n code : ℕ) (tracked : List Tracked) → AllStand events tracked → AllStand events (map (with_code h n code) tracked)
 with_codes events h n code [] all = tt
 with_codes events h n code (x ∷ xs) all = (by_test (is_tracked h n x), with_codes events h n code xs all.1)
   where
@@ -53,7 +53,7 @@ with_codes events h n code (x ∷ xs) all = (by_test (is_tracked h n x), with_co
     by_test false = all.0
 
 -- without the transfer whose callback a step ends
-past : (events : List Event) (h : ℕ) (step : Step) (tracked : List Tracked) → AllStand events tracked → AllStand events (past_return h step tracked)
+past : (events : List CaptureEvent) (h : ℕ) (step : Step) (tracked : List Tracked) → AllStand events tracked → AllStand events (past_return h step tracked)
 past events h (Open _ dev) tracked all = all
 past events h (Close _) tracked all = all
 past events h (Claim _ i) tracked all = all
@@ -71,7 +71,7 @@ past events h (Answer _ n verdict) tracked all = of_some events (λ x. not (is_t
 past events h (Unplug dev) tracked all = all
 
 -- what is kept behind a step that was done
-done_keeps : (events : List Event) (s : Recording) (h : ℕ) (step : Step) → AllStand events s.tracked → AllStand events (done_after s h step).tracked
+done_keeps : (events : List CaptureEvent) (s : Recording) (h : ℕ) (step : Step) → AllStand events s.tracked → AllStand events (done_after s h step).tracked
 done_keeps events s h (Open _ dev) all = all
 done_keeps events s h (Close _) all = all
 done_keeps events s h (Claim _ i) all = all
@@ -89,14 +89,14 @@ done_keeps events s h (Answer _ n verdict) all = of_some events (λ x. not (is_t
 done_keeps events s h (Unplug dev) all = all
 
 -- events behind events
-answers_behind : (front xs ys : List Event) → AreAnswers front xs → AreAnswers (front ++ xs) ys → AreAnswers front (xs ++ ys)
-answers_behind front [] ys a b = let P : List Event → Type 0 = λ l. AreAnswers l ys in subst P (append-nil front) b
+answers_behind : (front xs ys : List CaptureEvent) → AreAnswers front xs → AreAnswers (front ++ xs) ys → AreAnswers front (xs ++ ys)
+answers_behind front [] ys a b = let P : List CaptureEvent → Type 0 = λ l. AreAnswers l ys in subst P (append-nil front) b
 answers_behind front (x ∷ xs) ys a b =
-    let P : List Event → Type 0 = λ l. AreAnswers l ys in
+    let P : List CaptureEvent → Type 0 = λ l. AreAnswers l ys in
     (a.0, answers_behind (front ++ x ∷ []) xs ys a.1 (subst P (sym (append_assoc front (x ∷ []) xs)) b))
 
 -- a control transfer ends at once
-control_answers : (front : List Event) (line : ℕ) (second : Bool) (device : ℕ) (setup : ControlSetup) (bytes : List ℕ) → AreAnswers front (control_events line second device setup bytes)
+control_answers : (front : List CaptureEvent) (line : ℕ) (second : Bool) (device : ℕ) (setup : ControlSetup) (bytes : List ℕ) → AreAnswers front (control_events line second device setup bytes)
 control_answers front line second device setup bytes = (
   λ is. absurd (cc),
   (
@@ -106,7 +106,7 @@ control_answers front line second device setup bytes = (
 )
 
 -- those of a device's line
-device_answers : (front : List Event) (line device : ℕ) (descriptor : List ℕ) → AreAnswers front (device_events line device descriptor)
+device_answers : (front : List CaptureEvent) (line device : ℕ) (descriptor : List ℕ) → AreAnswers front (device_events line device descriptor)
 unfolding device_events
 device_answers front line device descriptor =
     let reads = control_events line false device (get_configuration (total_length descriptor)) (take (total_length descriptor) descriptor) in
@@ -116,11 +116,11 @@ device_answers front line device descriptor =
     (control_answers (front ++ reads) line true device (set_configuration (configuration_value descriptor)) [])
 
 -- those of what a step asked of the device that was done
-controls_answer : (front : List Event) (line device : ℕ) (setup : Option ControlSetup) → AreAnswers front (controls line device setup)
+controls_answer : (front : List CaptureEvent) (line device : ℕ) (setup : Option ControlSetup) → AreAnswers front (controls line device setup)
 controls_answer front line device None = tt
 controls_answer front line device (Some setup) = control_answers front line false device setup []
 
-done_answers : (front : List Event) (s : Recording) (line h : ℕ) (step : Step) → AreAnswers front (done_events s line h step)
+done_answers : (front : List CaptureEvent) (s : Recording) (line h : ℕ) (step : Step) → AreAnswers front (done_events s line h step)
 done_answers front s line h step = by_device (device_of h s.opened)
   where
     by_device : (o : Option ℕ) → AreAnswers front (option_map_or (λ device. controls line device (control_of s h device step)) o [])
@@ -128,18 +128,18 @@ done_answers front s line h step = by_device (device_of h s.opened)
     by_device (Some device) = controls_answer front line device (control_of s h device step)
 
 -- those of a submission, and what is kept of it
-submissions_answer : (front : List Event) (line : ℕ) (o : Option Tracked) → AreAnswers front (submissions line o)
+submissions_answer : (front : List CaptureEvent) (line : ℕ) (o : Option Tracked) → AreAnswers front (submissions line o)
 submissions_answer front line None = tt
 submissions_answer front line (Some x) = (λ is. absurd (cc), tt)
 
-submitted_stand : (front : List Event) (line : ℕ) (o : Option Tracked) (tracked : List Tracked) → AllStand front tracked → AllStand (front ++ submissions line o) (tracked ++ option_to_list o)
+submitted_stand : (front : List CaptureEvent) (line : ℕ) (o : Option Tracked) (tracked : List Tracked) → AllStand front tracked → AllStand (front ++ submissions line o) (tracked ++ option_to_list o)
 submitted_stand front line None tracked all =
     let P : List Tracked → Type 0 = λ l. AllStand (front ++ []) l in subst P (sym (append-nil tracked)) (stand_on front [] tracked all)
 submitted_stand front line (Some x) tracked all =
     one_more (front ++ submission line x ∷ []) tracked x (stand_on front (submission line x ∷ []) tracked all) (line, Contains-push front (submission line x))
 
 -- those of a callback: what is found of it is kept
-callbacks_answer : (front : List Event) (line : ℕ) (returned : Returned) (test : Tracked → Bool) (tracked : List Tracked) → AllStand front tracked → AreAnswers front (callbacks line returned (find test tracked))
+callbacks_answer : (front : List CaptureEvent) (line : ℕ) (returned : Returned) (test : Tracked → Bool) (tracked : List Tracked) → AllStand front tracked → AreAnswers front (callbacks line returned (find test tracked))
 callbacks_answer front line returned test [] all = tt
 callbacks_answer front line returned test (x ∷ xs) all = by_test (test x) (callbacks_answer front line returned test xs all.1)
   where
@@ -148,15 +148,15 @@ callbacks_answer front line returned test (x ∷ xs) all = by_test (test x) (cal
     by_test false others = others
 
 -- the events of a reply are answers, and what is kept stands behind them
-record Holds (front events : List Event) (tracked : List Tracked) : Type 0 where
+record Holds (front events : List CaptureEvent) (tracked : List Tracked) : Type 0 where
   pub answers : AreAnswers front events
   pub stand : AllStand (front ++ events) tracked
 
 -- nothing is told, and what is kept stands as it did
-silent : (front : List Event) (tracked : List Tracked) → AllStand front tracked → Holds front [] tracked
+silent : (front : List CaptureEvent) (tracked : List Tracked) → AllStand front tracked → Holds front [] tracked
 silent front tracked all = record { answers = tt; stand = stand_on front [] tracked all }
 
-of_reply : (front : List Event) (s : Recording) (line h : ℕ) (step : Step) (reply : Reply) → AllStand front s.tracked → Holds front (reply_events s line h step reply) (reply_after s h step reply).tracked
+of_reply : (front : List CaptureEvent) (s : Recording) (line h : ℕ) (step : Step) (reply : Reply) → AllStand front s.tracked → Holds front (reply_events s line h step reply) (reply_after s h step reply).tracked
 of_reply front s line h step Done all = record {
   answers = done_answers front s line h step;
   stand = stand_on front (done_events s line h step) (done_after s h step).tracked (done_keeps front s h step all);
@@ -180,7 +180,7 @@ of_reply front s line h step (Called returned) all =
       stand = stand_on front (callbacks line returned (transfer_of h returned.n s.tracked)) s.tracked all;
     }
 
-of_entry : (front : List Event) (s : Recording) (line : ℕ) (step : Step) (entry : Entry) → AllStand front s.tracked → Holds front (entry_events s line step entry) (entry_after s step entry).tracked
+of_entry : (front : List CaptureEvent) (s : Recording) (line : ℕ) (step : Step) (entry : Entry) → AllStand front s.tracked → Holds front (entry_events s line step entry) (entry_after s step entry).tracked
 unfolding entry_events entry_after
 of_entry front s line step entry all = by_owner entry.owner
   where
@@ -188,7 +188,7 @@ of_entry front s line step entry all = by_owner entry.owner
     by_owner None = silent front s.tracked all
     by_owner (Some h) = of_reply front s line h step entry.reply all
 
-of_entries : (front : List Event) (s : Recording) (places : List (ℕ × Place)) → AllStand front s.tracked → AreAnswers front (entries_events s places)
+of_entries : (front : List CaptureEvent) (s : Recording) (places : List (ℕ × Place)) → AllStand front s.tracked → AreAnswers front (entries_events s places)
 unfolding entries_events
 of_entries front s [] all = tt
 of_entries front s (x ∷ xs) all =
@@ -202,7 +202,7 @@ unfolding devices_after device_after
 none_tracked s [] none = none
 none_tracked s (d ∷ ds) none = none_tracked (device_after s d.device d.descriptor) ds none
 
-of_devices : (front : List Event) (devices : List DeviceLine) → AreAnswers front (flat_map (λ d. device_events d.line d.device d.descriptor) devices)
+of_devices : (front : List CaptureEvent) (devices : List DeviceLine) → AreAnswers front (flat_map (λ d. device_events d.line d.device d.descriptor) devices)
 of_devices front [] = tt
 of_devices front (d ∷ ds) =
     answers_behind front (device_events d.line d.device d.descriptor) (flat_map (λ x. device_events x.line x.device x.descriptor) ds)
@@ -210,7 +210,7 @@ of_devices front (d ∷ ds) =
 
 pub answers_of_run : (devices : List DeviceLine) (places : List (ℕ × Place)) → AreAnswers [] (run_events devices places)
 answers_of_run devices places =
-    let events : List Event = flat_map (λ d. device_events d.line d.device d.descriptor) devices in
+    let events : List CaptureEvent = flat_map (λ d. device_events d.line d.device d.descriptor) devices in
     let P : List Tracked → Type 0 = λ l. AllStand events l in
     answers_behind [] events (entries_events (devices_after nothing_recorded devices) places) (of_devices [] devices)
     (of_entries events (devices_after nothing_recorded devices) places (subst P (sym (none_tracked nothing_recorded devices refl)) tt))

@@ -7,7 +7,7 @@ use Rattle.trace_capture.specs.declared.identity.UrbId.TheVariants.{Control}
 use Rattle.trace_capture.specs.declared.errno.Errno.TheVariants.{Success, InProgress}
 use Rattle.trace_capture.specs.declared.event.EventType.TheVariants.{Submission, Callback}
 use Rattle.trace_capture.specs.declared.event.UrbFlags.{UrbFlags}
-use Rattle.trace_capture.specs.declared.event.Event.{Event}
+use Rattle.trace_capture.specs.declared.event.CaptureEvent.{CaptureEvent}
 
 -- GET_DESCRIPTOR of a configuration (USB 2.0, 9.4.3)
 abbrev pub get_configuration : ℕ → ControlSetup
@@ -33,7 +33,7 @@ abbrev pub no_flags : UrbFlags
 no_flags = record { short_not_ok = false; zero_packet = false }
 
 -- a control transfer is submitted
-abbrev pub control_submission : ℕ → Bool → ℕ → ControlSetup → Event
+abbrev pub control_submission : ℕ → Bool → ℕ → ControlSetup → CaptureEvent
 control_submission line second device setup = record {
   id = Control line second;
   event_type = Submission;
@@ -49,7 +49,7 @@ control_submission line second device setup = record {
 }
 
 -- and ended, with these bytes
-abbrev pub control_callback : ℕ → Bool → ℕ → ControlSetup → List ℕ → Event
+abbrev pub control_callback : ℕ → Bool → ℕ → ControlSetup → List ℕ → CaptureEvent
 control_callback line second device setup bytes = record {
   id = Control line second;
   event_type = Callback;
@@ -65,11 +65,11 @@ control_callback line second device setup bytes = record {
 }
 
 -- a control transfer of a line, whole
-abbrev pub control_events : ℕ → Bool → ℕ → ControlSetup → List ℕ → List Event
+abbrev pub control_events : ℕ → Bool → ℕ → ControlSetup → List ℕ → List CaptureEvent
 control_events line second device setup bytes = control_submission line second device setup ∷ control_callback line second device setup bytes ∷ []
 
 -- one that moves no bytes
-abbrev pub control_alone : ℕ → ℕ → ControlSetup → List Event
+abbrev pub control_alone : ℕ → ℕ → ControlSetup → List CaptureEvent
 control_alone line device setup = control_events line false device setup []
 
 -- how many bytes a configuration has with all its descriptors, as it says itself (USB 2.0, 9.6.3, wTotalLength)
@@ -81,7 +81,7 @@ abbrev pub configuration_value : List ℕ → ℕ
 configuration_value descriptor = slice_index descriptor 5
 
 -- the events of a device's line: its configuration is read, and then set
-unfoldable pub device_events : ℕ → ℕ → List ℕ → List Event
+unfoldable pub device_events : ℕ → ℕ → List ℕ → List CaptureEvent
 device_events line device descriptor =
     control_events line false device (get_configuration (total_length descriptor)) (take (total_length descriptor) descriptor)
     ++ control_events line true device (set_configuration (configuration_value descriptor)) []

@@ -13,7 +13,7 @@ use Rattle.trace_capture.specs.declared.control_setup.ControlSetup.{ControlSetup
 use Rattle.trace_capture.specs.declared.event.EventType.{EventType}
 use Rattle.trace_capture.specs.declared.event.EventType.TheVariants.{Submission, Callback}
 use Rattle.trace_capture.specs.declared.event.UrbFlags.{UrbFlags}
-use Rattle.trace_capture.specs.declared.event.Event.{Event}
+use Rattle.trace_capture.specs.declared.event.CaptureEvent.{CaptureEvent}
 
 -- a bit as a number
 abbrev pub bit : Bool → ℕ
@@ -69,33 +69,33 @@ abbrev pub flags_number : UrbFlags → Bool → ℕ
 flags_number flags inward = bit flags.short_not_ok + 0x40 * bit flags.zero_packet + 0x200 * bit inward
 
 -- 16 bytes: the time, in seconds and microseconds, and how many bytes follow, those that were kept and all (pcap-savefile(5))
-unfoldable pub record_header : Event → List ℕ
+unfoldable pub record_header : CaptureEvent → List ℕ
 record_header e = little_bytes 4 (e.line / 1000000) ++ little_bytes 4 (e.line % 1000000) ++ little_bytes 4 (64 + length e.bytes) ++ little_bytes 4 (64 + length e.bytes)
 
 -- 16 bytes: id, type, transfer type, endpoint, device address, bus 1, flags of setup and of data
-unfoldable pub who : Event → List ℕ
+unfoldable pub who : CaptureEvent → List ℕ
 who e =
     little_bytes 8 (id_number e.id) ++ little_bytes 1 (type_letter e.event_type) ++ little_bytes 1 (kind_number e.kind) ++ little_bytes 1 e.ep ++ little_bytes 1 (e.device + 1)
     ++ little_bytes 2 1 ++ little_bytes 1 (setup_flag e.setup) ++ little_bytes 1 (data_flag e.event_type (is_in e.ep))
 
 -- 16 bytes: seconds, microseconds, the status in two's complement
-unfoldable pub how : Event → List ℕ
+unfoldable pub how : CaptureEvent → List ℕ
 how e = little_bytes 8 (e.line / 1000000) ++ little_bytes 4 (e.line % 1000000) ++ little_bytes 4 (2 ^ 32 - errno_number e.errno)
 
 -- 16 bytes: the length, that of the data, the setup data
-unfoldable pub what : Event → List ℕ
+unfoldable pub what : CaptureEvent → List ℕ
 what e = little_bytes 4 e.length ++ little_bytes 4 (length e.bytes) ++ setup_bytes e.setup
 
 -- 16 bytes: no interval, no start frame, the transfer flags, no isochronous descriptors
-unfoldable pub rest : Event → List ℕ
+unfoldable pub rest : CaptureEvent → List ℕ
 rest e = little_bytes 4 0 ++ little_bytes 4 0 ++ little_bytes 4 (flags_number e.flags (is_in e.ep)) ++ little_bytes 4 0
 
 -- the record of an event
-unfoldable pub event_bytes : Event → List ℕ
+unfoldable pub event_bytes : CaptureEvent → List ℕ
 event_bytes e = record_header e ++ who e ++ how e ++ what e ++ rest e ++ e.bytes
 
 -- the records of events, in order
-abbrev pub events_bytes : List Event → List ℕ
+abbrev pub events_bytes : List CaptureEvent → List ℕ
 events_bytes events = flat_map event_bytes events
 
 -- 24 bytes in front of all records (pcap-savefile(5)): the magic number of microseconds, version 2.4, no time zone, no accuracy, at most 64 + 262,144 bytes of a record, LINKTYPE_USB_LINUX_MMAPPED
@@ -103,5 +103,5 @@ abbrev pub file_header : List ℕ
 file_header = little_bytes 4 0xa1b2_c3d4 ++ little_bytes 2 2 ++ little_bytes 2 4 ++ little_bytes 4 0 ++ little_bytes 4 0 ++ little_bytes 4 262208 ++ little_bytes 4 220
 
 -- the file of these events
-abbrev pub file_bytes : List Event → List ℕ
+abbrev pub file_bytes : List CaptureEvent → List ℕ
 file_bytes events = file_header ++ events_bytes events

@@ -14,7 +14,7 @@ use Rattle.usb_model.specs.declared.reply.Returned.{Returned}
 use Rattle.usb_model.specs.declared.entry.Entry.{Entry}
 use Rattle.usb_model.specs.World.Journal.{Place}
 use Rattle.trace_capture.specs.declared.control_setup.ControlSetup.{ControlSetup}
-use Rattle.trace_capture.specs.declared.event.Event.{Event}
+use Rattle.trace_capture.specs.declared.event.CaptureEvent.{CaptureEvent}
 use Rattle.trace_capture.specs.declared.tables.Configured.{Configured}
 use Rattle.trace_capture.specs.declared.tables.Opened.{Opened}
 use Rattle.trace_capture.specs.declared.tables.Holding.{Holding}
@@ -72,12 +72,12 @@ submitted s h n step =
     option_and_then (λ device. option_map (λ request. record { h = h; n = n; device = device; request = request; code = None }) (request_by h s.tracked step)) (device_of h s.opened)
 
 -- its submission
-abbrev pub submissions : ℕ → Option Tracked → List Event
+abbrev pub submissions : ℕ → Option Tracked → List CaptureEvent
 submissions line None = []
 submissions line (Some x) = submission line x ∷ []
 
 -- the callback of a transfer
-abbrev pub callbacks : ℕ → Returned → Option Tracked → List Event
+abbrev pub callbacks : ℕ → Returned → Option Tracked → List CaptureEvent
 callbacks line returned None = []
 callbacks line returned (Some x) = callback line x returned ∷ []
 
@@ -89,23 +89,23 @@ control_of s h device (ClearHalt _ ep) = Some (clear_halt ep)
 control_of s h device _ = None
 
 -- the events of what is asked
-abbrev pub controls : ℕ → ℕ → Option ControlSetup → List Event
+abbrev pub controls : ℕ → ℕ → Option ControlSetup → List CaptureEvent
 controls line device None = []
 controls line device (Some setup) = control_alone line device setup
 
 -- the events of a step of a handle that was done, at the device that it opened
-abbrev pub done_events : Recording → ℕ → ℕ → Step → List Event
+abbrev pub done_events : Recording → ℕ → ℕ → Step → List CaptureEvent
 done_events s line h step = option_map_or (λ device. controls line device (control_of s h device step)) (device_of h s.opened) []
 
 -- the events of a step of a handle, by the reply
-abbrev pub reply_events : Recording → ℕ → ℕ → Step → Reply → List Event
+abbrev pub reply_events : Recording → ℕ → ℕ → Step → Reply → List CaptureEvent
 reply_events s line h step Done = done_events s line h step
 reply_events s line h step (Number n) = submissions line (submitted s h n step)
 reply_events s line h step (Called returned) = callbacks line returned (transfer_of h returned.n s.tracked)
 reply_events s line h step _ = []
 
 -- the events of an entry with its step, from this line
-unfoldable pub entry_events : Recording → ℕ → Step → Entry → List Event
+unfoldable pub entry_events : Recording → ℕ → Step → Entry → List CaptureEvent
 entry_events s line step entry = option_map_or (λ h. reply_events s line h step entry.reply) entry.owner []
 
 -- the transfers but this
@@ -165,11 +165,11 @@ devices_after s [] = s
 devices_after s (d ∷ ds) = devices_after (device_after s d.device d.descriptor) ds
 
 -- the events of entries, each with its step and the number of its line
-unfoldable pub entries_events : Recording → List (ℕ × Place) → List Event
+unfoldable pub entries_events : Recording → List (ℕ × Place) → List CaptureEvent
 entries_events s [] = []
 entries_events s (x ∷ xs) = entry_events s x.0 x.1.step x.1.entry ++ entries_events (entry_after s x.1.step x.1.entry) xs
 
 -- the events of a run: those of its devices, and those of its entries
-abbrev pub run_events : List DeviceLine → List (ℕ × Place) → List Event
+abbrev pub run_events : List DeviceLine → List (ℕ × Place) → List CaptureEvent
 run_events devices places =
     flat_map (λ d. device_events d.line d.device d.descriptor) devices ++ entries_events (devices_after nothing_recorded devices) places

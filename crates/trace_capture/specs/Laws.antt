@@ -3,7 +3,7 @@ use Rattle.std.specs.Prelude.{◌≡◌, ℕ, ◌+◌, ◌^◌, ◌<◌, List, [
 use Rattle.std.specs.List.{All, Contains}
 use Rattle.trace_capture.specs.declared.identity.UrbId.{UrbId}
 use Rattle.trace_capture.specs.declared.identity.UrbId.TheVariants.{Transfer, Control}
-use Rattle.trace_capture.specs.declared.event.Event.{Event}
+use Rattle.trace_capture.specs.declared.event.CaptureEvent.{CaptureEvent}
 use Rattle.trace_capture.specs.declared.event.EventType.TheVariants.{Submission, Callback}
 use Rattle.trace_capture.specs.Event.{event_bytes, id_number}
 use Rattle.trace_capture.specs.Events.{Recording, DeviceLine, entry_events, entry_after, run_events}
@@ -14,11 +14,11 @@ use Rattle.usb_model.specs.World.Journal.{Place}
 
 -- a record has 80 bytes, and then those of its data
 abbrev pub RecordsHaveLengths : Type 0
-RecordsHaveLengths = (e : Event) → length (event_bytes e) ≡ 80 + length e.bytes
+RecordsHaveLengths = (e : CaptureEvent) → length (event_bytes e) ≡ 80 + length e.bytes
 
 -- each of them is below 256 where each of its data is
 abbrev pub BytesAreBytes : Type 0
-BytesAreBytes = (e : Event) → All (λ b. b < 256) e.bytes → All (λ b. b < 256) (event_bytes e)
+BytesAreBytes = (e : CaptureEvent) → All (λ b. b < 256) e.bytes → All (λ b. b < 256) (event_bytes e)
 
 -- the ids that a run has: it has no 2^32 transfers of a handle, and no 2^31 lines
 abbrev pub IsId : UrbId → Type 0
@@ -30,7 +30,7 @@ abbrev pub IdsDiffer : Type 0
 IdsDiffer = (x y : UrbId) → IsId x → IsId y → id_number x ≡ id_number y → x ≡ y
 
 -- a callback ends what a submission began: of the same transfer, at the same endpoint of the same device, with the same flags
-pub record IsCallbackOf (s e : Event) : Type 0 where
+pub record IsCallbackOf (s e : CaptureEvent) : Type 0 where
   pub began : s.event_type ≡ Submission
   pub id : e.id ≡ s.id
   pub device : e.device ≡ s.device
@@ -39,11 +39,11 @@ pub record IsCallbackOf (s e : Event) : Type 0 where
   pub flags : e.flags ≡ s.flags
 
 -- a callback has its submission among the events in front of it
-abbrev pub IsAnswer : List Event → Event → Type 0
-IsAnswer front e = e.event_type ≡ Callback → (s : Event) × Contains front s × IsCallbackOf s e
+abbrev pub IsAnswer : List CaptureEvent → CaptureEvent → Type 0
+IsAnswer front e = e.event_type ≡ Callback → (s : CaptureEvent) × Contains front s × IsCallbackOf s e
 
 -- each of these events does, behind those in front
-abbrev pub AreAnswers : List Event → List Event → Type 0
+abbrev pub AreAnswers : List CaptureEvent → List CaptureEvent → Type 0
 AreAnswers front [] = Unit {0}
 AreAnswers front (e ∷ events) = IsAnswer front e × AreAnswers (front ++ e ∷ []) events
 

@@ -14,7 +14,7 @@ use Rattle.trace_capture.specs.declared.errno.Errno.{Errno}
 use Rattle.trace_capture.specs.declared.errno.Errno.TheVariants.{Success, NoEntry, Pipe, Protocol, Overflow, Shutdown, InProgress, RemoteIo}
 use Rattle.trace_capture.specs.declared.event.EventType.TheVariants.{Submission, Callback}
 use Rattle.trace_capture.specs.declared.event.UrbFlags.{UrbFlags}
-use Rattle.trace_capture.specs.declared.event.Event.{Event}
+use Rattle.trace_capture.specs.declared.event.CaptureEvent.{CaptureEvent}
 use Rattle.trace_capture.specs.declared.transfer.Tracked.{Tracked}
 
 -- what a request asks for beside its bytes
@@ -41,7 +41,7 @@ errno_of status.NoDevice code = Shutdown
 errno_of status.Overflow code = Overflow
 
 -- a transfer is submitted, from this line
-abbrev pub submission : ℕ → Tracked → Event
+abbrev pub submission : ℕ → Tracked → CaptureEvent
 submission line x = record {
   id = Transfer x.h x.n;
   event_type = Submission;
@@ -57,7 +57,7 @@ submission line x = record {
 }
 
 -- and called back, from this line, with what came of it
-abbrev pub callback : ℕ → Tracked → Returned → Event
+abbrev pub callback : ℕ → Tracked → Returned → CaptureEvent
 callback line x returned = record {
   id = Transfer x.h x.n;
   event_type = Callback;

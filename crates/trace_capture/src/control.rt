@@ -5,7 +5,7 @@ ghost use Rattle.trace_capture.specs.Control.{configuration_value, control_alone
 
 use crate::control_setup::ControlSetup;
 use crate::errno::Errno;
-use crate::event::{Event, EventType, UrbFlags};
+use crate::event::{CaptureEvent, EventType, UrbFlags};
 use crate::identity::UrbId;
 use std::alloc::{AllocError, Global};
 use usb_model::{Bytes, DeviceNo, Kind, Sequence};
@@ -25,10 +25,10 @@ pub(crate) struct ControlTransfer {
 
 impl ControlTransfer {
     /// Its submission.
-    fn submission(&self, alloc: Global) -> Event
+    fn submission(&self, alloc: Global) -> CaptureEvent
         ensures { result ≡ control_submission self.now.line self.now.second self.now.device self.now.setup }
     {
-        Event {
+        CaptureEvent {
             id: UrbId::Control {
                 line: self.line,
                 second: self.second,
@@ -47,10 +47,10 @@ impl ControlTransfer {
     }
 
     /// Its callback, with these bytes.
-    fn callback(&self, bytes: Bytes) -> Event
+    fn callback(&self, bytes: Bytes) -> CaptureEvent
         ensures { result ≡ control_callback self.now.line self.now.second self.now.device self.now.setup bytes }
     {
-        Event {
+        CaptureEvent {
             id: UrbId::Control {
                 line: self.line,
                 second: self.second,
@@ -69,7 +69,11 @@ impl ControlTransfer {
     }
 
     /// Both, with these bytes.
-    pub(crate) fn events(&self, alloc: Global, bytes: Bytes) -> Result<Sequence<Event>, AllocError>
+    pub(crate) fn events(
+        &self,
+        alloc: Global,
+        bytes: Bytes,
+    ) -> Result<Sequence<CaptureEvent>, AllocError>
         ensures { IfOk result (λ events. events ≡ control_events self.now.line self.now.second self.now.device self.now.setup bytes) }
     {
         let mut events = Sequence::new(alloc);
@@ -85,7 +89,7 @@ pub(crate) fn alone(
     line: u64,
     device: DeviceNo,
     setup: ControlSetup,
-) -> Result<Sequence<Event>, AllocError>
+) -> Result<Sequence<CaptureEvent>, AllocError>
     ensures { IfOk result (λ events. events ≡ control_alone line device setup) }
 {
     let control = ControlTransfer {
@@ -136,7 +140,7 @@ pub(crate) fn device_events(
     line: u64,
     device: DeviceNo,
     descriptor: &[u8],
-) -> Result<Sequence<Event>, AllocError>
+) -> Result<Sequence<CaptureEvent>, AllocError>
     ensures { IfOk result (λ events. events ≡ device_events line device descriptor.now) }
 {
     let total = total_length(descriptor);

@@ -8,7 +8,7 @@ use crate::errno::Errno;
 use crate::identity::UrbId;
 use usb_model::{Bytes, DeviceNo, EpAddr, Kind, Request};
 
-/// What happened to a transfer (Linux, Documentation/usb/usbmon.rst, "Event Type").
+/// What happened to a transfer (Linux, Documentation/usb/usbmon.rst, "CaptureEvent Type").
 #[derive(Clone, Copy, PartialEq, Eq, Debug)]
 pub enum EventType {
     /// It was submitted.
@@ -28,7 +28,7 @@ pub struct UrbFlags {
 
 /// One event of a bus (Linux, Documentation/usb/usbmon.rst, "Raw binary format and API").
 #[derive(Debug, Drop)]
-pub struct Event {
+pub struct CaptureEvent {
     /// Which transfer it is of.
     pub id: UrbId,
     /// What happened.

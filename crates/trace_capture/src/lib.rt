@@ -17,8 +17,8 @@
 //! # Contracts
 //!
 //! - `file_header`: the 24 bytes in front of the records
-//! - `Event::append_to`, `append_all`: the records of events are put behind what is there; without memory nothing changes
-//! - `Recorder::device`, `Recorder::entry`: the events of a device's line, and of an entry with its step and line, are
+//! - `CaptureEvent::append_to`, `append_all`: the records of events are put behind what is there; without memory nothing changes
+//! - `CaptureRecorder::device`, `CaptureRecorder::entry`: the events of a device's line, and of an entry with its step and line, are
 //!   those of the definitions, and so is what is kept for the next. Without memory nothing changes. Of a transfer its request
 //!   is kept, from its submission until its callback has returned
 //! - `laws::records`: a record has 80 bytes and those of its data, and each is a byte
@@ -28,8 +28,8 @@
 //!   may be told
 //! - `laws::vectors`: the captures of two worked runs, computed from their steps
 //!
-//! To write a run's capture: `file_header`; then what `Recorder::device` gives of each device's line, and what
-//! `Recorder::entry` gives of each entry as it comes, by `append_all`.
+//! To write a run's capture: `file_header`; then what `CaptureRecorder::device` gives of each device's line, and what
+//! `CaptureRecorder::entry` gives of each entry as it comes, by `append_all`.
 #![tactic(auto)]
 
 mod control;
@@ -46,7 +46,7 @@ mod transfer;
 
 pub use control_setup::ControlSetup;
 pub use errno::Errno;
-pub use event::{Event, EventType, UrbFlags};
+pub use event::{CaptureEvent, EventType, UrbFlags};
 pub use identity::UrbId;
 pub use record::{append_all, file_header};
-pub use recorder::Recorder;
+pub use recorder::CaptureRecorder;

@@ -5,7 +5,7 @@ ghost use Rattle.usb_model.specs.Setup.{is_in};
 ghost use Rattle.trace_capture.specs.Event.{bit, data_flag, event_bytes, events_bytes, file_header, flags_number, how, kind_number, record_header, rest, setup_bytes, setup_flag, type_letter, what, who};
 
 use crate::control_setup::ControlSetup;
-use crate::event::{Event, EventType, UrbFlags};
+use crate::event::{CaptureEvent, EventType, UrbFlags};
 use crate::field::put;
 use std::alloc::{AllocError, Global};
 use usb_model::{EpAddr, Kind};
@@ -28,7 +28,7 @@ pub fn file_header() -> [u8; 24]
 }
 
 /// Puts the records of events behind the bytes, in order. Without memory nothing changes.
-pub fn append_all(events: &[Event], out: &mut Vec<u8>) -> Result<(), AllocError>
+pub fn append_all(events: &[CaptureEvent], out: &mut Vec<u8>) -> Result<(), AllocError>
     ensures records { OnOk result (out.new.items ≡ out.old.items ++ events_bytes events.now) }
     ensures kept { OnErr result (out.new.items ≡ out.old.items) }
 {
@@ -112,7 +112,7 @@ fn put_setup(out: &mut Vec<u8>, setup: Option<ControlSetup>) -> Result<(), Alloc
     put(out, 2, u64::from(setup.length))
 }
 
-impl Event {
+impl CaptureEvent {
     /// Puts its record behind the bytes. Without memory nothing changes.
     pub fn append_to(&self, out: &mut Vec<u8>) -> Result<(), AllocError>
         ensures record { OnOk result (out.new.items ≡ out.old.items ++ event_bytes self.now) }

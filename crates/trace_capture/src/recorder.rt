@@ -7,7 +7,7 @@ ghost use Rattle.trace_capture.specs.Events.{callbacks, control_of, device_after
 
 use crate::control::{alone, configuration_value, device_events};
 use crate::control_setup::ControlSetup;
-use crate::event::Event;
+use crate::event::CaptureEvent;
 use crate::tables::{
     Configured, Holding, Opened, claim, close, device_of, end, forget, holds, release, release_all,
     request_by, track, transfer_of, value_of,
@@ -20,7 +20,7 @@ use usb_model::{DeviceNo, Entry, Name, Reply, Returned, Sequence, Step};
 /// Tells the events of a run, as its entries come. Contracts see what it keeps: which device each handle opened, the
 /// interfaces that handles hold, and what was asked of each transfer that is in flight or in its callback.
 #[derive(Drop)]
-pub struct Recorder {
+pub struct CaptureRecorder {
     configured: Vec<Configured>,
     opened: Vec<Opened>,
     held: Vec<Holding>,
@@ -28,7 +28,7 @@ pub struct Recorder {
     alloc: Global,
 }
 
-impl Model for Recorder {
+impl Model for CaptureRecorder {
     ghost use Rattle.trace_capture.specs.Events.{Recording};
 
     ghost Value = { Recording };
@@ -36,12 +36,12 @@ impl Model for Recorder {
     ghost view = { λ r. record { configured = r.configured.items; opened = r.opened.items; held = r.held.items; tracked = r.tracked.items } };
 }
 
-impl Recorder {
+impl CaptureRecorder {
     /// Before the first line. Takes no memory.
-    pub fn new(alloc: Global) -> Recorder
+    pub fn new(alloc: Global) -> CaptureRecorder
         ensures { result ≡ nothing_recorded }
     {
-        Recorder {
+        CaptureRecorder {
             configured: Vec::new(alloc),
             opened: Vec::new(alloc),
             held: Vec::new(alloc),
@@ -57,7 +57,7 @@ impl Recorder {
         line: u64,
         device: DeviceNo,
         descriptor: &[u8],
-    ) -> Result<Sequence<Event>, AllocError>
+    ) -> Result<Sequence<CaptureEvent>, AllocError>
         ensures events { IfOk result (λ events. events ≡ device_events line device descriptor.now) }
         ensures after { OnOk result (self.new ≡ device_after self.old device descriptor.now) }
         ensures kept { OnErr result (self.new ≡ self.old) }
@@ -75,7 +75,7 @@ impl Recorder {
         line: u64,
         step: &Step,
         entry: &Entry,
-    ) -> Result<Sequence<Event>, AllocError>
+    ) -> Result<Sequence<CaptureEvent>, AllocError>
         ensures events { IfOk result (λ events. events ≡ entry_events self.old line step.now entry.now) }
         ensures after { OnOk result (self.new ≡ entry_after self.old step.now entry.now) }
         ensures kept { OnErr result (self.new ≡ self.old) }
@@ -96,7 +96,12 @@ impl Recorder {
     }
 
     /// The events of a step that was done. Without memory nothing changes.
-    fn done(&mut self, line: u64, h: Name, step: &Step) -> Result<Sequence<Event>, AllocError>
+    fn done(
+        &mut self,
+        line: u64,
+        h: Name,
+        step: &Step,
+    ) -> Result<Sequence<CaptureEvent>, AllocError>
         ensures events { IfOk result (λ events. events ≡ done_events self.old line h step.now) }
         ensures after { OnOk result (self.new ≡ done_after self.old h step.now) }
         ensures kept { OnErr result (self.new ≡ self.old) }
@@ -107,7 +112,12 @@ impl Recorder {
     }
 
     /// The events of what a step asks of the device that was done.
-    fn done_events(&self, line: u64, h: Name, step: &Step) -> Result<Sequence<Event>, AllocError>
+    fn done_events(
+        &self,
+        line: u64,
+        h: Name,
+        step: &Step,
+    ) -> Result<Sequence<CaptureEvent>, AllocError>
         ensures { IfOk result (λ events. events ≡ done_events self.now line h step.now) }
     {
         let Some(device) = device_of(h, self.opened.as_slice()) else {
@@ -168,7 +178,7 @@ impl Recorder {
         h: Name,
         n: u64,
         step: &Step,
-    ) -> Result<Sequence<Event>, AllocError>
+    ) -> Result<Sequence<CaptureEvent>, AllocError>
         ensures events { IfOk result (λ events. events ≡ submissions line (submitted self.old h n step.now)) }
         ensures after { OnOk result (self.new ≡ number_after self.old h n step.now) }
         ensures kept { OnErr result (self.new ≡ self.old) }
@@ -202,7 +212,12 @@ impl Recorder {
     }
 
     /// The events of a transfer that is called back.
-    fn called(&self, line: u64, h: Name, returned: &Returned) -> Result<Sequence<Event>, AllocError>
+    fn called(
+        &self,
+        line: u64,
+        h: Name,
+        returned: &Returned,
+    ) -> Result<Sequence<CaptureEvent>, AllocError>
         ensures { IfOk result (λ events. events ≡ callbacks line returned.now (transfer_of h returned.now.n self.now.tracked)) }
     {
         let mut events = Sequence::new(self.alloc);
@@ -218,7 +233,7 @@ fn submissions(
     alloc: Global,
     line: u64,
     submitted: Option<&Tracked>,
-) -> Result<Sequence<Event>, AllocError>
+) -> Result<Sequence<CaptureEvent>, AllocError>
     ensures { IfOk result (λ events. events ≡ submissions line (option_copied submitted.entry)) }
 {
     let mut events = Sequence::new(alloc);

@@ -6,7 +6,7 @@ ghost use Rattle.trace_capture.specs.Events.{is_tracked, with_code};
 ghost use Rattle.trace_capture.specs.Transfer.{callback, errno_of, failure, submission, written};
 
 use crate::errno::Errno;
-use crate::event::{Event, EventType, UrbFlags};
+use crate::event::{CaptureEvent, EventType, UrbFlags};
 use crate::identity::UrbId;
 use std::alloc::{AllocError, Global};
 use usb_model::completion::{SHORT_PACKET, SUCCESS};
@@ -86,10 +86,10 @@ impl Tracked {
     }
 
     /// It is submitted, from this line.
-    pub(crate) fn submission(&self, alloc: Global, line: u64) -> Result<Event, AllocError>
+    pub(crate) fn submission(&self, alloc: Global, line: u64) -> Result<CaptureEvent, AllocError>
         ensures { IfOk result (λ event. event ≡ submission line self.now) }
     {
-        Ok(Event {
+        Ok(CaptureEvent {
             id: UrbId::Transfer {
                 h: self.h,
                 n: self.n,
@@ -113,10 +113,10 @@ impl Tracked {
         alloc: Global,
         line: u64,
         returned: &Returned,
-    ) -> Result<Event, AllocError>
+    ) -> Result<CaptureEvent, AllocError>
         ensures { IfOk result (λ event. event ≡ callback line self.now returned.now) }
     {
-        Ok(Event {
+        Ok(CaptureEvent {
             id: UrbId::Transfer {
                 h: self.h,
                 n: self.n,

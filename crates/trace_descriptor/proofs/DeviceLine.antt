@@ -21,9 +21,12 @@ use Rattle.trace_scenario.specs.Scenario.{nothing_said, scenario_from, taken_at,
 use Rattle.trace_scenario.specs.Verb.{verb_of}
 use Rattle.usb_scripttext.specs.Words.{words_in}
 use Rattle.usb_scripttext.proofs.Numbers.{taken}
+use Rattle.trace_descriptor.specs.Identity.{identity_lines}
+use Rattle.trace_descriptor.specs.Laws.{others_of}
 use Rattle.trace_descriptor.specs.Lines.{device_line}
+use Rattle.trace_descriptor.proofs.PassedOver.{identity_end}
 use Rattle.trace_descriptor.proofs.Plain.{digits_pass, none_of, plain, plain_encode, plain_join}
-use Rattle.trace_descriptor.proofs.Quiet.{lines}
+use Rattle.trace_descriptor.proofs.Quiet.{lines, others}
 
 -- the line without its end
 abbrev pub words : List ℕ → List ℕ
@@ -84,13 +87,16 @@ lines_taken : (at : ℕ) (c : List ℕ) (s : Scenario) → with_text nothing_sai
 unfolding scenario_from
 lines_taken at c s says = ap (taken_at at (λ t. scenario_from (at + 1) t ([] ∷ []))) says
 
-line_cut : (c : List ℕ) → lines (device_line c) ≡ words c ∷ [] ∷ []
+line_cut : (c more : List ℕ) → lines (device_line c ++ more) ≡ words c ∷ lines more
 unfolding device_line
-line_cut c =
-    ap lines (sym (append_assoc (codes "device 0 ") (encode_lower c) (10 ∷ [])))
-    ∙ slice_split_at (λ b. b == 10) (words c) 10 [] (none_of (λ b. b == 10) (words c) (plain_join (codes "device 0 ") (encode_lower c) (plain refl) (plain_encode c)).all) refl
+line_cut c more =
+    ap lines (ap (λ t. t ++ more) (sym (append_assoc (codes "device 0 ") (encode_lower c) (10 ∷ []))) ∙ append_assoc (words c) (10 ∷ []) more)
+    ∙ slice_split_at (λ b. b == 10) (words c) 10 more (none_of (λ b. b == 10) (words c) (plain_join (codes "device 0 ") (encode_lower c) (plain refl) (plain_encode c)).all) refl
 
--- the line alone is the text of that scenario
-pub device_taken : (at : ℕ) (c : List ℕ) (config : Configuration) → IsBytes c → reading c ≡ Ok config
-    → scenario_from at nothing_said (lines (device_line c)) ≡ Ok (one_device config)
-device_taken at c config fit reads = ap (scenario_from at nothing_said) (line_cut c) ∙ lines_taken at c (one_device config) (said c config fit reads)
+-- the line, and those of a device descriptor behind it, are the text of that scenario
+pub device_taken : (at : ℕ) (c d : List ℕ) (config : Configuration) → IsBytes c → reading c ≡ Ok config
+    → scenario_from at nothing_said (others_of (device_line c ++ identity_lines d)) ≡ Ok (one_device config)
+device_taken at c d config fit reads =
+    ap (λ texts. scenario_from at nothing_said (others texts)) (line_cut c (identity_lines d))
+    ∙ (ap (λ texts. scenario_from at nothing_said (words c ∷ texts)) (identity_end d)
+    ∙ lines_taken at c (one_device config) (said c config fit reads))

@@ -3,6 +3,7 @@ mod Joined
 mod Settings
 mod Plain
 mod Quiet
+mod PassedOver
 mod DeviceLine
 mod Comments
 mod Taken

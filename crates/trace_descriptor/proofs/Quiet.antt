@@ -1,18 +1,23 @@
--- Texts that say nothing in a scenario: lines of comments.
-use Rattle.std.proofs.Common.{◌≡◌, ℕ, ◌+◌, ◌==◌, List, [], ◌∷◌, ◌++◌, refl, ap, sym, ◌∙◌, append_assoc}
-use Rattle.std.specs.List.{flat_map, slice_split}
+-- Texts that say nothing in a scenario made of the other lines of a text: lines of comments.
+use Rattle.std.proofs.Common.{◌≡◌, ℕ, ◌+◌, ◌==◌, not, List, [], ◌∷◌, ◌++◌, refl, ap, sym, ◌∙◌, append_assoc}
+use Rattle.std.specs.List.{filter, flat_map, slice_split}
 use Rattle.std.proofs.lemmas.List.Splits.{slice_split_at}
 use Rattle.trace_scenario.specs.declared.scenario.Scenario.{Scenario}
 use Rattle.trace_scenario.specs.Scenario.{scenario_from}
+use Rattle.trace_descriptor.specs.Laws.{others_of, says_identity}
 use Rattle.trace_descriptor.proofs.Plain.{Plain, none_of, plain_join, plain_push}
 
 -- the lines of a text
 abbrev pub lines : List ℕ → List (List ℕ)
 lines text = slice_split (λ b. b == 10) text
 
+-- those that say no identity
+abbrev pub others : List (List ℕ) → List (List ℕ)
+others texts = filter (λ line. not (says_identity line)) texts
+
 -- in front of any text it changes nothing but the numbers of lines
 pub record Quiet (t : List ℕ) : Type 0 where
-  pub goes : (at : ℕ) (s : Scenario) (more : List ℕ) → (n : ℕ) × (scenario_from at s (lines (t ++ more)) ≡ scenario_from n s (lines more))
+  pub goes : (at : ℕ) (s : Scenario) (more : List ℕ) → (n : ℕ) × (scenario_from at s (others_of (t ++ more)) ≡ scenario_from n s (others_of more))
 
 pub quiet_none : Quiet []
 quiet_none = record { goes = λ at s more. (at, refl) }
@@ -22,7 +27,7 @@ quiet_join a b p q = record {
   goes = λ at s more.
       let first = p.goes at s (b ++ more) in
       let second = q.goes first.0 s more in
-      (second.0, ap (λ t. scenario_from at s (lines t)) (append_assoc a b more) ∙ (first.1 ∙ second.1));
+      (second.0, ap (λ t. scenario_from at s (others_of t)) (append_assoc a b more) ∙ (first.1 ∙ second.1));
 }
 
 pub quiet_each : {A : Type 0} (f : A → List ℕ) (xs : List A) → ((x : A) → Quiet (f x)) → Quiet (flat_map f xs)
@@ -49,5 +54,5 @@ quiet_comment t e = record {
   goes = λ at s more.
       let text : (35 ∷ t) ++ more ≡ (35 ∷ e.0) ++ 10 ∷ more = ap (λ x. (35 ∷ x) ++ more) e.1 ∙ append_assoc (35 ∷ e.0) (10 ∷ []) more in
       let cut = slice_split_at (λ b. b == 10) (35 ∷ e.0) 10 more (none_of (λ b. b == 10) (35 ∷ e.0) (plain_push 35 e.0 refl e.2).all) refl in
-      (at + 1, ap (scenario_from at s) (ap lines text ∙ cut) ∙ comment_more at s e.0 (lines more));
+      (at + 1, ap (λ texts. scenario_from at s (others texts)) (ap lines text ∙ cut) ∙ comment_more at s e.0 (others_of more));
 }

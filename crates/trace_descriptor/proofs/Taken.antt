@@ -9,23 +9,24 @@ use Rattle.usb_model.specs.declared.setup.Configuration.{Configuration}
 use Rattle.usb_descriptors.specs.declared.fault.DescFault.{DescFault}
 use Rattle.usb_descriptors.specs.Grammar.{reading}
 use Rattle.usb_descriptors.specs.Pieces.{byte}
-use Rattle.trace_scenario.specs.Scenario.{nothing_said, scenario_of}
+use Rattle.trace_scenario.specs.Scenario.{nothing_said, scenario_from}
 use Rattle.trace_descriptor.specs.declared.fault.DescriptorFault.{DescriptorFault}
 use Rattle.trace_descriptor.specs.declared.fault.DescriptorFault.TheVariants.{NotADescriptor, NotADevice, NoConfiguration}
 use Rattle.trace_descriptor.specs.Device.{text_by, text_of_bytes, text_of_file}
 use Rattle.trace_descriptor.specs.File.{FileParts, parts, parts_of, taken_length}
 use Rattle.trace_descriptor.specs.Input.{by_hex, bytes_of, bytes_of_text, digits, is_text}
-use Rattle.trace_descriptor.specs.Laws.{TextsAreScenarios}
+use Rattle.trace_descriptor.specs.Identity.{identity_lines}
+use Rattle.trace_descriptor.specs.Laws.{TextsAreScenarios, others_of}
 use Rattle.trace_descriptor.specs.Lines.{comments, device_line}
 use Rattle.trace_descriptor.proofs.Comments.{quiet_comments}
 use Rattle.trace_descriptor.proofs.DeviceLine.{device_taken, one_device}
 
--- comments, and then the line
+-- comments, and then the lines of the device
 text_taken : (file : FileParts) (config : Configuration) → IsBytes file.configuration → reading file.configuration ≡ Ok config
-    → scenario_of (comments file config ++ device_line file.configuration) ≡ Ok (one_device config)
+    → scenario_from 1 nothing_said (others_of (comments file config ++ (device_line file.configuration ++ identity_lines file.device))) ≡ Ok (one_device config)
 text_taken file config fit reads =
-    let behind = (quiet_comments file config).goes 1 nothing_said (device_line file.configuration) in
-    behind.1 ∙ device_taken behind.0 file.configuration config fit reads
+    let behind = (quiet_comments file config).goes 1 nothing_said (device_line file.configuration ++ identity_lines file.device) in
+    behind.1 ∙ device_taken behind.0 file.configuration file.device config fit reads
 
 -- the first bytes, and those behind, are bytes
 take_fits : (n : ℕ) (bytes : List ℕ) → IsBytes bytes → IsBytes (take n bytes)
@@ -78,19 +79,19 @@ pub texts_are_scenarios : TextsAreScenarios
 texts_are_scenarios input text fit = by_bytes (bytes_of input) refl
   where
     by_reading : (bytes : List ℕ) (file : FileParts) (r : Result Configuration DescFault) → bytes_of input ≡ Ok bytes → parts_of bytes ≡ Ok file → reading file.configuration ≡ r → text_by file r ≡ Ok text
-        → (b : List ℕ) × (f : FileParts) × (config : Configuration) × (bytes_of input ≡ Ok b) × (parts_of b ≡ Ok f) × (reading f.configuration ≡ Ok config) × (scenario_of text ≡ Ok (one_device config))
+        → (b : List ℕ) × (f : FileParts) × (config : Configuration) × (bytes_of input ≡ Ok b) × (parts_of b ≡ Ok f) × (reading f.configuration ≡ Ok config) × (scenario_from 1 nothing_said (others_of text) ≡ Ok (one_device config))
     by_reading bytes file (Err fault) given cut read is = cc
     by_reading bytes file (Ok config) given cut read is =
-        let same : comments file config ++ device_line file.configuration ≡ text = cc in
+        let same : comments file config ++ (device_line file.configuration ++ identity_lines file.device) ≡ text = cc in
         let fits = file_fits bytes file (bytes_fit input bytes fit given) cut in
-        (bytes, file, config, given, cut, read, ap scenario_of (sym same) ∙ text_taken file config fits read)
+        (bytes, file, config, given, cut, read, ap (λ t. scenario_from 1 nothing_said (others_of t)) (sym same) ∙ text_taken file config fits read)
 
     by_file : (bytes : List ℕ) (r : Result FileParts DescriptorFault) → bytes_of input ≡ Ok bytes → parts_of bytes ≡ r → text_of_file r ≡ Ok text
-        → (b : List ℕ) × (f : FileParts) × (config : Configuration) × (bytes_of input ≡ Ok b) × (parts_of b ≡ Ok f) × (reading f.configuration ≡ Ok config) × (scenario_of text ≡ Ok (one_device config))
+        → (b : List ℕ) × (f : FileParts) × (config : Configuration) × (bytes_of input ≡ Ok b) × (parts_of b ≡ Ok f) × (reading f.configuration ≡ Ok config) × (scenario_from 1 nothing_said (others_of text) ≡ Ok (one_device config))
     by_file bytes (Err fault) given cut is = cc
     by_file bytes (Ok file) given cut is = by_reading bytes file (reading file.configuration) given cut refl is
 
     by_bytes : (r : Result (List ℕ) DescriptorFault) → bytes_of input ≡ r → text_of_bytes r ≡ Ok text
-        → (b : List ℕ) × (f : FileParts) × (config : Configuration) × (bytes_of input ≡ Ok b) × (parts_of b ≡ Ok f) × (reading f.configuration ≡ Ok config) × (scenario_of text ≡ Ok (one_device config))
+        → (b : List ℕ) × (f : FileParts) × (config : Configuration) × (bytes_of input ≡ Ok b) × (parts_of b ≡ Ok f) × (reading f.configuration ≡ Ok config) × (scenario_from 1 nothing_said (others_of text) ≡ Ok (one_device config))
     by_bytes (Err fault) given is = cc
     by_bytes (Ok bytes) given is = by_file bytes (parts_of bytes) given refl is

@@ -7,12 +7,13 @@ use Rattle.trace_descriptor.specs.declared.fault.DescriptorFault.{DescriptorFaul
 use Rattle.trace_descriptor.specs.declared.fault.DescriptorFault.TheVariants.{Descriptor}
 use Rattle.trace_descriptor.specs.File.{FileParts, parts_of}
 use Rattle.trace_descriptor.specs.Input.{bytes_of}
+use Rattle.trace_descriptor.specs.Identity.{identity_lines}
 use Rattle.trace_descriptor.specs.Lines.{comments, device_line}
 
--- the comments, and then the line of the device
+-- the comments, the line of the device, and what its device descriptor says
 abbrev pub text_by : FileParts → Result Configuration DescFault → Result (List ℕ) DescriptorFault
 text_by file (Err fault) = Err (Descriptor fault)
-text_by file (Ok config) = Ok (comments file config ++ device_line file.configuration)
+text_by file (Ok config) = Ok (comments file config ++ (device_line file.configuration ++ identity_lines file.device))
 
 -- where the first configuration is taken
 abbrev pub text_of_file : Result FileParts DescriptorFault → Result (List ℕ) DescriptorFault

@@ -1,6 +1,7 @@
 pub mod Device
 pub mod Faults
 pub mod File
+pub mod Identity
 pub mod Input
 pub mod Interfaces
 pub mod Laws

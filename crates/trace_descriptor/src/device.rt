@@ -3,6 +3,7 @@
 ghost use Rattle.std.specs.Prelude.{◌≡◌, ◌++◌, IfErr, IfOk, Ok};
 ghost use Rattle.trace_descriptor.specs.Device.{device_text};
 ghost use Rattle.trace_descriptor.specs.Faults.{IsDescriptorFault};
+ghost use Rattle.trace_descriptor.specs.Identity.{identity_lines};
 ghost use Rattle.trace_descriptor.specs.Lines.{comments, device_line};
 
 use crate::fault::DescriptorFault;
@@ -12,18 +13,19 @@ use crate::text::DescriptorText;
 use std::alloc::{AllocError, Global};
 use usb_descriptors::{Config, read_config};
 
-/// The comments on a file, and the line of its device.
+/// The comments on a file, the line of its device, and what the device descriptor says.
 fn text_of(alloc: Global, file: &DescriptorFile<'_>, config: &Config) -> Result<Vec<u8>, AllocError>
-    ensures { IfOk result (λ text. text.items ≡ comments file.now config.now ++ device_line file.now.configuration) }
+    ensures { IfOk result (λ text. text.items ≡ comments file.now config.now ++ (device_line file.now.configuration ++ identity_lines file.now.device)) }
 {
     let mut text = DescriptorText::new(alloc);
     text.put_comments(file, config)?;
     text.put_line(file.configuration)?;
+    text.put_identity(file.device)?;
     Ok(text.into_bytes())
 }
 
 /// The beginning of a scenario: device 0 has the first configuration of the input, and comments in front name its interfaces and
-/// endpoints.
+/// endpoints. Behind its line stand the `ids` and `class` lines of a device descriptor, the latter unless all its numbers are 0.
 ///
 /// The input is a device descriptor and one or more configurations, as Linux's file `descriptors` has them, or a configuration
 /// alone; or the same as hexadecimal text, of which spaces, line feeds, carriage returns, tabs, colons and each `0x` are passed over.

@@ -2,8 +2,8 @@
 
 ghost use Rattle.trace_descriptor.specs.Laws.{TextsAreScenarios};
 
-/// The text that `device_lines` gives is that of a scenario: its one device has the configuration that the taken bytes say, and its
-/// plan is empty.
+/// The text that `device_lines` gives is that of a scenario, but for the lines that begin with `ids ` or `class `: its one device has
+/// the configuration that the taken bytes say, and its plan is empty.
 pub fn texts()
     ensures { TextsAreScenarios }
 {}

@@ -15,7 +15,7 @@ use Rattle.usb_model.specs.declared.response.Response.{Response}
 use Rattle.usb_model.specs.declared.response.Response.TheVariants as response
 use Rattle.usb_model.specs.Completion.{success, babble_detected, transaction_error, stall_error, short_packet}
 use Rattle.usb_model.specs.Endpoint.{first_waiting, outcome_of}
-use Rattle.usb_model.specs.Endpoint.Packets.{acks, count_of, ended_with, front_of, moved_by, open_with, outcome, packets_by, read_with, sent_with, without_naks}
+use Rattle.usb_model.specs.Endpoint.Packets.{IsOpenAt, acks, count_of, ended_with, front_of, moved_by, open_with, outcome, packets_by, read_with, sent_with, without_naks}
 use Rattle.usb_model.specs.Endpoint.Serve.{is_no_packet, next_answer, serve, serve_by, serve_first, serve_gone}
 use Rattle.trace_explain.specs.declared.ends.End.{End}
 use Rattle.trace_explain.specs.declared.ends.End.TheVariants.{Whole, Short, Stall, Broken, Babble}
@@ -24,6 +24,15 @@ use Rattle.trace_explain.specs.declared.sentence.Reason.TheVariants.{Nak}
 use Rattle.trace_explain.specs.Endings.{answer_end, answer_reason, end_by, end_of, ending_of, unready_by}
 use Rattle.trace_explain.specs.Turns.{first_reason}
 use Rattle.trace_explain.specs.Sorts.{End as Ends, code_of, sort_of, sort_of_reply}
+
+-- a transfer that stays open by the answer that it takes doesn't end by it
+pub no_end : (size : ℕ) (e : Endpoint) (x : Item) → IsOpenAt (outcome x.request size (x.share ++ next_answer e) e.device_halted) → answer_end size e x ≡ None
+unfolding answer_end
+no_end size e x open_at = by_outcome (outcome x.request size (x.share ++ next_answer e) e.device_halted) open_at
+  where
+    by_outcome : (o : Option Outcome) → IsOpenAt o → option_and_then end_of o ≡ None
+    by_outcome None is_open = absurd is_open
+    by_outcome (Some o) is_open = rw is_open refl
 
 -- the completion code of an end
 abbrev code_of_end : End → ℕ

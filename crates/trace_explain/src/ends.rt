@@ -10,6 +10,7 @@ ghost use Rattle.usb_model.specs.Endpoint.Packets.{acks, full_packets, moved_by,
 
 use crate::answers::Answers;
 use crate::sentence::TransferEnd;
+use reference::progress::stays_open;
 use usb_model::{Body, Endpoint, EpAddr, Item, Request, Response};
 
 /// How a transfer ended.
@@ -158,10 +159,13 @@ fn sent_end(request: &Request, size: usize, answers: &Answers<'_>) -> Option<End
 }
 
 /// How a transfer ends by the answer that it takes now, if it does.
-#[tactic(auto, unfolding(crate::specs::Endings::answer_end, usb_model::specs::Endpoint::Packets::outcome))]
+#[tactic(auto, using(crate::proofs::TellsEnds::no_end), unfolding(crate::specs::Endings::answer_end, usb_model::specs::Endpoint::Packets::outcome))]
 pub(crate) fn answer_end(size: u16, endpoint: &Endpoint, item: &Item) -> Option<End>
     ensures { result ≡ answer_end size endpoint.now item.now }
 {
+    if stays_open(endpoint, size, item) {
+        return None;
+    }
     let answers = Answers::of(endpoint, item);
     if endpoint.device_halted && answers.is_empty() {
         return Some(End::Stall);

@@ -13,9 +13,9 @@ macro_rules! help_over_file {
     };
 }
 
-/// The text of help with an example's words, when the status is 0 and when 1, and what stands behind that.
-macro_rules! help_text {
-    ($words:literal, $good:literal, $failed:literal $(, $behind:literal)*) => {
+/// The text of help with an example's words, when the status is 0 and when 1, what stands behind that, and further options.
+macro_rules! help_with_options {
+    ($words:literal, $good:literal, $failed:literal, [$($behind:literal),*], [$($option:literal),*]) => {
         help_over_file!(
             "Input: a scenario, a line for each device, script and step. Words stand between single spaces.\n",
             "  device D HEX               the next device, 0 to 3, with this configuration descriptor\n",
@@ -27,7 +27,8 @@ macro_rules! help_text {
             "  serve D EP                 the controller serves an endpoint; so command, deliver, take, return, unplug\n",
             "  # ..                       a comment\n\n",
             "Refused: 1 InvalidParam, 2 NoDevice, 3 NotFound, 4 Busy, 5 HeldElsewhere, 6 NoMem, 7 NotSupported; `usbtrace explain` says why\n",
-            "Code: 1 Success, 3 Babble, 4 Transaction Error, 6 Stall, 13 Short Packet";
+            "Code: 1 Success, 3 Babble, 4 Transaction Error, 6 Stall, 13 Short Packet"
+            $(, $option)*;
             "run scenario.txt";
             "Example:\n",
             "  printf 'open 1 0\\ntake\\n' | usbtrace ",
@@ -42,6 +43,27 @@ macro_rules! help_text {
     };
 }
 
+/// The same without further options.
+macro_rules! help_text {
+    ($words:literal, $good:literal, $failed:literal $(, $behind:literal)*) => {
+        help_with_options!($words, $good, $failed, [$($behind),*], [])
+    };
+}
+
+/// The same of a word whose lines may have other forms.
+macro_rules! help_of_forms {
+    ($words:literal, $good:literal, $failed:literal $(, $behind:literal)*) => {
+        help_with_options!(
+            $words, $good, $failed, [$($behind),*],
+            [
+                "\n\nMore options:\n",
+                "  --json                     what is printed, as an object of JSON for each line\n",
+                "  --color WHEN               always, never, or auto, as without it: on a terminal, where NO_COLOR isn't set"
+            ]
+        )
+    };
+}
+
 /// The help of the program.
 pub(crate) const PROGRAM: &str = help_text!(
     "run",
@@ -50,7 +72,7 @@ pub(crate) const PROGRAM: &str = help_text!(
 );
 
 /// The help of `run`.
-pub(crate) const RUN: &str = help_text!(
+pub(crate) const RUN: &str = help_of_forms!(
     "run",
     "where all entries are printed",
     "where a line is bad, memory is wanting or a stream fails",
@@ -80,7 +102,7 @@ pub(crate) const LEFT: &str = help_text!(
 );
 
 /// The help of `check`.
-pub(crate) const CHECK: &str = help_text!(
+pub(crate) const CHECK: &str = help_of_forms!(
     "check",
     "where each line is taken",
     "where one isn't, memory is wanting or a stream fails"
@@ -120,7 +142,7 @@ pub(crate) const DEVICES: &str = help_over_file!(
 );
 
 /// The help of `explain`.
-pub(crate) const EXPLAIN: &str = help_text!(
+pub(crate) const EXPLAIN: &str = help_of_forms!(
     "explain",
     "where all entries are printed",
     "where a line is bad, memory is wanting or a stream fails"
@@ -134,7 +156,13 @@ pub(crate) const TEST: &str = help_over_file!(
     "  settle                     command, deliver and take, until nothing is to be done\n",
     "  serve 0 81 *3              this step three times; so any other line\n",
     "  macro NAME                 begins a macro, whose body are the lines up to `end`; in it $1 to $9 are the words of a call\n",
-    "  NAME WORD ..               a call: the body of the macro above of this name, with these words";
+    "  NAME WORD ..               a call: the body of the macro above of this name, with these words\n\n",
+    "More options:\n",
+    "  --json                     what is printed, as an object of JSON for each test\n",
+    "  --color WHEN               always, never, or auto, as without it: on a terminal, where NO_COLOR isn't set\n",
+    "  --junit FILE               what came of the tests of files is written into FILE too, as the XML of JUnit\n",
+    "  --html DIR                 a page is written into DIR for each test of a file that fails\n",
+    "  --update                   lines of the files that differ are rewritten, to expect what there is";
     "test first.txt second.txt";
     "Example:\n",
     "  printf 'open 1 0\\nexpect h1 refused 3\\n' | usbtrace test\n\n",

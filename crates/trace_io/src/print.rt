@@ -11,8 +11,10 @@ use crate::lines::Lines;
 use crate::write::write_bytes;
 use std::alloc::{AllocError, Global};
 use std::io::Write;
-use trace_scenario::{Counts, Finding, Findings};
+use trace_scenario::{Counts, Finding, Findings, ShownWord};
+use usb_devicetext::{LineReason, line_complaint};
 use usb_model::Entry;
+use usb_scripttext::words::ascii;
 
 /// Of how many bad lines a line is printed at most.
 const MOST_FINDINGS: usize = 1_000;
@@ -75,13 +77,36 @@ fn print_bad<W: Write>(alloc: Global, out: &mut W, bad: &[Finding<'_>]) -> Resul
     Ok(())
 }
 
+/// The word of a line that a reason is about, if it is about one.
+fn word_of(line: &[u8], reason: LineReason) -> Option<&str> {
+    ascii(line)?.split(' ').nth(reason.place()?)
+}
+
+/// Why a line isn't taken that says something of a device, behind the word that this is about.
+fn device_sentence(alloc: Global, line: &[u8], reason: LineReason) -> Result<String, AllocError> {
+    let Some(word) = word_of(line, reason) else {
+        return format!(in alloc; "{reason}");
+    };
+    let word = ShownWord(word);
+    format!(in alloc; "`{word}`: {reason}")
+}
+
+/// What is wrong with a bad line: of one that says something of a device as texts of devices have it.
+fn sentence_of(alloc: Global, finding: &Finding<'_>) -> Result<String, AllocError> {
+    match line_complaint(alloc, finding.text) {
+        Ok(Some(reason)) => device_sentence(alloc, finding.text, reason),
+        Ok(None) => finding.to_string(alloc),
+        Err(error) => Err(error),
+    }
+}
+
 /// Prints a bad line's number and what is wrong with it.
 fn print_finding<W: Write>(alloc: Global, out: &mut W, finding: &Finding<'_>) -> Result<(), Fault>
     ensures line { OnOk result ((sentence : List ℕ) × Appends (W.contents out.old) (W.contents out.new) (finding_text (finding.now.line, sentence))) }
     ensures begun { OnErr result ((sentence : List ℕ) × AppendsSome (finding_text (finding.now.line, sentence)) (W.contents out.old) (W.contents out.new)) }
     ensures fault { IfErr result (λ fault. IsOfRun fault) }
 {
-    let told = finding.to_string(alloc)?;
+    let told = sentence_of(alloc, finding)?;
     let (number, sentence) = (finding.line, told.as_str());
     let line = format!(in alloc; "line {number}: {sentence}\n")?;
     write_bytes(out, line.as_bytes())

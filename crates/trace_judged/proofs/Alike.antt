@@ -15,7 +15,7 @@ use Rattle.usb_model.specs.World.Plans.{Stage, expand, first_stage, stage_after,
 use Rattle.trace_scenario.specs.declared.expectations.ExpectedPackets.{ExpectedPackets}
 use Rattle.usb_scripttext.specs.declared.expected_packet.ExpectedPacket.{ExpectedPacket}
 use Rattle.trace_judged.specs.declared.difference.Difference.{Difference}
-use Rattle.trace_judged.specs.declared.missing.Missing.{Missing}
+use Rattle.trace_judged.specs.declared.missing.MissingPackets.{MissingPackets}
 use Rattle.trace_judged.specs.Differences.{difference_by, difference_of, differences, differences_from, next_index, piece_difference, step_difference, taken_at}
 use Rattle.trace_judged.specs.Expected.{expected_at}
 use Rattle.trace_judged.specs.Missing.{all_missing, missing_at, missing_of}
@@ -67,8 +67,8 @@ module _ (lines others : List ExpectedPackets) (alike : (dev ep : ℕ) → expec
       → flat_map (λ (info : EndpointInfo). option_to_list (missing_at lines w dev info.address)) infos ≡ flat_map (λ (info : EndpointInfo). option_to_list (missing_at others w dev info.address)) infos
   same_of w dev [] = refl
   same_of w dev (info ∷ infos) =
-      ap (λ (m : Option Missing). option_to_list m ++ flat_map (λ (i : EndpointInfo). option_to_list (missing_at lines w dev i.address)) infos) (same_missing w dev info.address)
-      ∙ ap (λ (more : List Missing). option_to_list (missing_at others w dev info.address) ++ more) (same_of w dev infos)
+      ap (λ (m : Option MissingPackets). option_to_list m ++ flat_map (λ (i : EndpointInfo). option_to_list (missing_at lines w dev i.address)) infos) (same_missing w dev info.address)
+      ∙ ap (λ (more : List MissingPackets). option_to_list (missing_at others w dev info.address) ++ more) (same_of w dev infos)
 
   same_in_all : (setup : Setup) (w : World) → all_missing lines setup w ≡ all_missing others setup w
   same_in_all setup w =

@@ -17,7 +17,7 @@ use Rattle.trace_scenario.specs.declared.expectations.ExpectedPackets.{ExpectedP
 use Rattle.usb_scripttext.specs.declared.expected_packet.ExpectedPacket.{ExpectedPacket}
 use Rattle.usb_scripttext.specs.declared.expected_packet.ExpectedPacket.TheVariants.{Anything, Exactly, Beginning}
 use Rattle.trace_judged.specs.declared.difference.Difference.{Difference}
-use Rattle.trace_judged.specs.declared.missing.Missing.{Missing}
+use Rattle.trace_judged.specs.declared.missing.MissingPackets.{MissingPackets}
 use Rattle.trace_judged.specs.Differences.{difference_by, difference_of, differences, differences_from, next_index, piece_difference, step_difference, taken_at}
 use Rattle.trace_judged.specs.Expected.{differs_at, expected_at, expected_by}
 use Rattle.trace_judged.specs.Missing.{all_missing, device_missing, is_wanted, missing_at, missing_of}
@@ -142,7 +142,7 @@ module _ (lines : List ExpectedPackets) (none : expects lines ≡ false) (w : Wo
   none_of : (dev : ℕ) (infos : List EndpointInfo) → flat_map (λ (info : EndpointInfo). option_to_list (missing_at lines w dev info.address)) infos ≡ []
   none_of dev [] = refl
   none_of dev (info ∷ infos) =
-      ap (λ (m : Option Missing). option_to_list m ++ flat_map (λ (i : EndpointInfo). option_to_list (missing_at lines w dev i.address)) infos) (no_missing dev info.address) ∙ none_of dev infos
+      ap (λ (m : Option MissingPackets). option_to_list m ++ flat_map (λ (i : EndpointInfo). option_to_list (missing_at lines w dev i.address)) infos) (no_missing dev info.address) ∙ none_of dev infos
 
   none_in_all : (setup : Setup) → all_missing lines setup w ≡ []
   none_in_all setup =

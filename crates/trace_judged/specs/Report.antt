@@ -8,7 +8,7 @@ use Rattle.trace_scenario.specs.Counts.{plural_end}
 use Rattle.usb_scripttext.specs.declared.expected_packet.ExpectedPacket.{ExpectedPacket}
 use Rattle.usb_scripttext.specs.declared.expected_packet.ExpectedPacket.TheVariants.{Beginning}
 use Rattle.trace_judged.specs.declared.difference.Difference.{Difference}
-use Rattle.trace_judged.specs.declared.missing.Missing.{Missing}
+use Rattle.trace_judged.specs.declared.missing.MissingPackets.{MissingPackets}
 use Rattle.trace_judged.specs.declared.unexpected.Unexpected.{Unexpected}
 use Rattle.trace_judged.specs.Expected.{bytes_expected}
 
@@ -52,14 +52,14 @@ abbrev pub difference_line : Difference → List ℕ
 difference_line d = head_text d ++ (came_text d ++ (bytes_around (bytes_expected d.expected) d.offset ++ (length_text d.expected ++ codes "\n")))
 
 -- what never came at an endpoint
-abbrev pub never_text : Missing → List ℕ
+abbrev pub never_text : MissingPackets → List ℕ
 never_text m = codes "# " ++ (place_text m.dev m.ep ++ (decimal m.count ++ (codes " expected packet" ++ (plural_end m.count ++ (codes " never came; the first is packet " ++ (decimal (m.index + 1) ++ codes ": expected "))))))
 
-abbrev pub missing_line : Missing → List ℕ
+abbrev pub missing_line : MissingPackets → List ℕ
 missing_line m = never_text m ++ (bytes_begun (bytes_expected m.expected) ++ (length_text m.expected ++ codes "\n"))
 
 -- how many packets differ or never came
-abbrev pub total_of : List Difference → List Missing → ℕ
+abbrev pub total_of : List Difference → List MissingPackets → ℕ
 total_of differences missing = length differences + sum_by (λ m. m.count) missing
 
 abbrev pub total_line : ℕ → List ℕ
@@ -71,7 +71,7 @@ first_of [] = None
 first_of (d ∷ ds) = Some d
 
 -- what is told of a run: nothing, where each packet is as expected and none is missing
-abbrev pub unexpected_of : List Difference → List Missing → Option Unexpected
+abbrev pub unexpected_of : List Difference → List MissingPackets → Option Unexpected
 unexpected_of differences missing =
     if total_of differences missing == 0 then None
     else Some (record { first = first_of differences; missing = missing; total = total_of differences missing })

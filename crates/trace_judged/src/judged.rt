@@ -15,7 +15,7 @@ ghost use Rattle.trace_judged.specs.Missing.{all_missing};
 
 use crate::difference::{Difference, difference_of, next_index, received_at};
 use crate::expected::packet_at;
-use crate::missing::{Missing, all_missing};
+use crate::missing::{MissingPackets, all_missing};
 use reference::{PlanRun, System};
 use std::alloc::{AllocError, Global};
 use trace_scenario::{ExpectedPackets, NumberedLine};
@@ -27,7 +27,7 @@ pub struct Judged {
     /// The packets that a device took and that aren't as expected, in their order.
     pub differences: Vec<Difference>,
     /// What never came, since the scripts began last: of each endpoint, in the order of the devices' configurations.
-    pub missing: Vec<Missing>,
+    pub missing: Vec<MissingPackets>,
 }
 
 /// The packet of this index that an endpoint took, where it took one and it isn't as expected.

@@ -36,6 +36,6 @@ mod unexpected;
 
 pub use difference::Difference;
 pub use judged::{Judged, judge};
-pub use missing::Missing;
+pub use missing::MissingPackets;
 pub use text::{judged_text, unexpected_by};
 pub use unexpected::Unexpected;

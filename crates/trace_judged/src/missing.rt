@@ -18,7 +18,7 @@ use usb_scripttext::ExpectedPacket;
 
 /// The packets that never came at an endpoint, since its script began last. One that may be anything isn't missed.
 #[derive(Debug, Drop)]
-pub struct Missing {
+pub struct MissingPackets {
     /// The device.
     pub dev: DeviceNo,
     /// The endpoint.
@@ -70,7 +70,7 @@ fn missing_of(
     ep: EpAddr,
     index: usize,
     left: &[&ExpectedPacket],
-) -> Result<Option<Missing>, AllocError>
+) -> Result<Option<MissingPackets>, AllocError>
     ensures { IfOk result (λ m. m ≡ missing_of dev ep index (packets_of left.now)) }
 {
     let Some(at) = first_wanted(left) else {
@@ -82,7 +82,7 @@ fn missing_of(
     let expected = copy_expected(alloc, packet)?;
     let index = index.checked_add(at).ok_or(AllocError)?;
     let count = wanted(left);
-    Ok(Some(Missing {
+    Ok(Some(MissingPackets {
         dev,
         ep,
         count,
@@ -109,7 +109,7 @@ fn missing_at(
     system: &System,
     dev: DeviceNo,
     ep: EpAddr,
-) -> Result<Option<Missing>, AllocError>
+) -> Result<Option<MissingPackets>, AllocError>
     ensures { (setup : Setup) → IfOk result (λ m. m ≡ missing_at lines.now (world_of setup system.now) dev ep) }
 {
     let packets = expected_at(alloc, lines, dev, ep)?;
@@ -119,7 +119,7 @@ fn missing_at(
 }
 
 /// Puts what never came at an endpoint behind others, if there is any.
-fn put(missing: &mut Vec<Missing>, found: Option<Missing>) -> Result<(), AllocError>
+fn put(missing: &mut Vec<MissingPackets>, found: Option<MissingPackets>) -> Result<(), AllocError>
     ensures { IfOk result (λ _. missing.new.items ≡ missing.old.items ++ option_to_list found) }
 {
     if let Some(found) = found {
@@ -135,7 +135,7 @@ fn put_missing(
     setup: &Setup,
     system: &System,
     dev: DeviceNo,
-    missing: &mut Vec<Missing>,
+    missing: &mut Vec<MissingPackets>,
 ) -> Result<(), AllocError>
     ensures { IfOk result (λ _. missing.new.items ≡ missing.old.items ++ device_missing lines.now setup.now (world_of setup.now system.now) dev) }
 {
@@ -153,7 +153,7 @@ fn put_device(
     setup: &Setup,
     system: &System,
     number: u8,
-    missing: &mut Vec<Missing>,
+    missing: &mut Vec<MissingPackets>,
 ) -> Result<(), AllocError>
     requires { number < 4 }
     ensures { IfOk result (λ _. missing.new.items ≡ missing.old.items ++ device_missing lines.now setup.now (world_of setup.now system.now) number) }
@@ -170,7 +170,7 @@ pub(crate) fn all_missing(
     lines: &[ExpectedPackets],
     setup: &Setup,
     system: &System,
-) -> Result<Vec<Missing>, AllocError>
+) -> Result<Vec<MissingPackets>, AllocError>
     ensures { IfOk result (λ missing. missing.items ≡ all_missing lines.now setup.now (world_of setup.now system.now)) }
 {
     let mut missing = Vec::new(alloc);

@@ -7,7 +7,7 @@ ghost use Rattle.trace_judged.specs.Report.{bytes_around, bytes_begun, came_text
 
 use crate::difference::Difference;
 use crate::expected::bytes_expected;
-use crate::missing::Missing;
+use crate::missing::MissingPackets;
 use std::alloc::{AllocError, Global};
 use usb_model::{DeviceNo, EpAddr};
 use usb_scripttext::ExpectedPacket;
@@ -107,7 +107,7 @@ pub(crate) fn came_text(alloc: Global, d: &Difference) -> Result<String, AllocEr
 }
 
 /// How many packets never came at an endpoint, and which is the first.
-pub(crate) fn never_text(alloc: Global, m: &Missing) -> Result<String, AllocError>
+pub(crate) fn never_text(alloc: Global, m: &MissingPackets) -> Result<String, AllocError>
     ensures { IfOk result (λ text. string_bytes text ≡ never_text m.now) }
 {
     let place = place_text(alloc, m.dev, m.ep)?;

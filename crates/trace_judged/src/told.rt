@@ -6,7 +6,7 @@ ghost use Rattle.trace_judged.specs.Report.{difference_line, first_line, missing
 
 use crate::difference::Difference;
 use crate::expected::bytes_expected;
-use crate::missing::Missing;
+use crate::missing::MissingPackets;
 use crate::sentence::{
     bytes_around, bytes_begun, came_text, head_text, length_text, never_text, plural_end,
 };
@@ -39,7 +39,7 @@ fn put_first(
 }
 
 /// Puts the line of what never came at an endpoint behind a text.
-fn put_missing(alloc: Global, text: &mut Vec<u8>, m: &Missing) -> Result<(), AllocError>
+fn put_missing(alloc: Global, text: &mut Vec<u8>, m: &MissingPackets) -> Result<(), AllocError>
     ensures { IfOk result (λ _. text.new.items ≡ text.old.items ++ missing_line m.now) }
 {
     let never = never_text(alloc, m)?;
@@ -50,7 +50,11 @@ fn put_missing(alloc: Global, text: &mut Vec<u8>, m: &Missing) -> Result<(), All
 }
 
 /// Puts these lines of all endpoints behind a text.
-fn put_all_missing(alloc: Global, text: &mut Vec<u8>, missing: &[Missing]) -> Result<(), AllocError>
+fn put_all_missing(
+    alloc: Global,
+    text: &mut Vec<u8>,
+    missing: &[MissingPackets],
+) -> Result<(), AllocError>
     ensures { IfOk result (λ _. text.new.items ≡ text.old.items ++ flat_map missing_line missing.now) }
 {
     for m in missing {

@@ -6,7 +6,7 @@ ghost use Rattle.trace_judged.specs.Report.{first_of, total_of, unexpected_of};
 use crate::difference::Difference;
 use crate::expected::{copy_expected, copy_of};
 use crate::judged::Judged;
-use crate::missing::Missing;
+use crate::missing::MissingPackets;
 use std::alloc::{AllocError, Global};
 use usb_model::Sequence;
 
@@ -16,7 +16,7 @@ pub struct Unexpected {
     /// The first packet that differs, if one does.
     pub first: Option<Difference>,
     /// What never came, of each endpoint.
-    pub missing: Sequence<Missing>,
+    pub missing: Sequence<MissingPackets>,
     /// How many packets differ or never came.
     pub total: usize,
 }
@@ -47,7 +47,7 @@ fn first_of(alloc: Global, differences: &[Difference]) -> Result<Option<Differen
 }
 
 /// How many packets never came. An error where that is no number.
-fn missing_in_all(missing: &[Missing]) -> Result<usize, AllocError>
+fn missing_in_all(missing: &[MissingPackets]) -> Result<usize, AllocError>
     ensures { IfOk result (λ count. count ≡ sum_by (λ m. m.count) missing.now) }
 {
     let mut count: usize = 0;
@@ -58,7 +58,7 @@ fn missing_in_all(missing: &[Missing]) -> Result<usize, AllocError>
 }
 
 /// How many packets differ or never came. An error where that is no number.
-fn total_of(differences: &[Difference], missing: &[Missing]) -> Result<usize, AllocError>
+fn total_of(differences: &[Difference], missing: &[MissingPackets]) -> Result<usize, AllocError>
     ensures { IfOk result (λ total. total ≡ total_of differences.now missing.now) }
 {
     let never = missing_in_all(missing)?;

@@ -1,38 +1,24 @@
 -- What a task has written, however it ends.
 use Rattle.std.proofs.Common.{◌≡◌, ◌++◌, ℕ, List, [], Option, Some, None, Result, Ok, Err, IfSome, inl, refl, sym, subst, append-nil}
 use Rattle.std.specs.Io.KnownBytes.{Appends, Keeps}
-use Rattle.trace_scenario.specs.Counts.{counts_of}
-use Rattle.trace_scenario.specs.Findings.{bad_lines, good_lines}
-use Rattle.trace_scenario.specs.Scenario.{scenario_of}
 use Rattle.trace_scenario.specs.declared.scenario.Scenario.{Scenario}
 use Rattle.trace_io.specs.declared.words.Task.{Task}
 use Rattle.trace_io.specs.declared.words.Task.TheVariants.{Run, Steps, Packets, Alone, Live, Left, Check, Draw, Page, Capture, Devices, Explain, Test, Device, Describe}
 use Rattle.trace_io.specs.Output.{AppendsSome}
 use Rattle.trace_io.proofs.Beginnings.{none_yet, some_behind, some_of_front}
-use Rattle.trace_io.proofs.Findings.{no_report}
-use Rattle.trace_main.specs.Lived.{lived_of, AppendsSomeCallbacks, BeginsCallbacks}
+use Rattle.trace_main.specs.Lived.{AppendsSomeCallbacks}
 use Rattle.trace_recorded.specs.declared.capture_fault.CaptureFault.{CaptureFault}
 use Rattle.trace_recorded.specs.declared.scenario.RecordedScenario.{RecordedScenario}
 use Rattle.trace_recorded.specs.Scenario.{recorded_scenario}
-use Rattle.trace_run.specs.Tasks.{AppendsAny, alone_text, capture_bytes, left_lines, run_text, steps_text}
+use Rattle.trace_run.specs.Tasks.{AppendsAny}
 use Rattle.trace_descriptor.specs.declared.fault.DescriptorFault.{DescriptorFault}
 use Rattle.trace_descriptor.specs.Device.{device_text}
-use Rattle.trace_main.specs.Program.{check_text, packets_text, reasons_text, Begins, BeginsCheck, BeginsDevice, BeginsEntries, BeginsOutcome, BeginsPicture, BeginsRecorded, with_judged}
+use Rattle.trace_main.specs.Program.{Begins, BeginsDevice, BeginsOutcome, BeginsRecorded}
 
 -- known bytes stay
 pub keeps_same : (old : Option (List ℕ)) → Keeps old old
 keeps_same None = tt
 keeps_same (Some xs) = refl
-
--- no entry is printed
-no_entries : (text : Scenario → List ℕ) (said : Result Scenario ℕ) (old : Option (List ℕ)) → BeginsEntries text said old old
-no_entries text (Ok s) old = none_yet (text s) old
-no_entries text (Err line) old = keeps_same old
-
--- nothing is drawn
-no_picture : (said : Result Scenario ℕ) (old : Option (List ℕ)) → BeginsPicture said old old
-no_picture (Ok s) old = let none = none_yet [] old in (none.0, none.2)
-no_picture (Err line) old = keeps_same old
 
 -- nothing of a capture is told
 pub no_recorded : (said : Result RecordedScenario CaptureFault) (old : Option (List ℕ)) → BeginsRecorded said old old
@@ -43,11 +29,6 @@ no_recorded (Err fault) old = keeps_same old
 pub no_device : (said : Result (List ℕ) DescriptorFault) (old : Option (List ℕ)) → BeginsDevice said old old
 no_device (Ok lines) old = none_yet lines old
 no_device (Err fault) old = keeps_same old
-
--- nothing of a check
-pub no_check : (text : List ℕ) (said : Result Scenario ℕ) (old : Option (List ℕ)) → BeginsCheck text said old old
-no_check text (Ok s) old = none_yet (check_text text s) old
-no_check text (Err line) old = no_report (bad_lines text) (counts_of (good_lines text)) old
 
 -- nothing of a table is told
 pub no_table : (old : Option (List ℕ)) → AppendsAny old old
@@ -61,25 +42,20 @@ no_outcome text old = inl (keeps_same old)
 pub none_begun : (s : Scenario) (old : Option (List ℕ)) → AppendsSomeCallbacks s old old
 none_begun s old = inl (keeps_same old)
 
--- no callback was told anything, whatever the text says
-pub no_callbacks : (said : Result Scenario ℕ) (old : Option (List ℕ)) → BeginsCallbacks said old old
-no_callbacks (Ok s) old = none_begun s old
-no_callbacks (Err line) old = keeps_same old
-
 -- nothing is written
-nothing_of : (t : Task) (text : List ℕ) (old : Option (List ℕ)) → Begins t text old old
-nothing_of Run text old = no_entries (with_judged (λ x. run_text) text) (scenario_of text) old
-nothing_of Steps text old = no_entries (with_judged steps_text text) (scenario_of text) old
-nothing_of (Packets steps) text old = no_entries (packets_text steps text) (scenario_of text) old
-nothing_of (Alone h) text old = no_entries (alone_text h) (scenario_of text) old
-nothing_of (Live rounds) text old = no_callbacks (lived_of text) old
-nothing_of Left text old = no_entries (with_judged (λ x. left_lines) text) (scenario_of text) old
-nothing_of Check text old = no_check text (scenario_of text) old
-nothing_of (Draw from to) text old = no_picture (scenario_of text) old
-nothing_of Capture text old = no_entries (capture_bytes text) (scenario_of text) old
+pub nothing_of : (t : Task) (text : List ℕ) (old : Option (List ℕ)) → Begins t text old old
+nothing_of Run text old = inl (keeps_same old)
+nothing_of Steps text old = inl (keeps_same old)
+nothing_of (Packets steps) text old = inl (keeps_same old)
+nothing_of (Alone h) text old = inl (keeps_same old)
+nothing_of (Live rounds) text old = inl (keeps_same old)
+nothing_of Left text old = inl (keeps_same old)
+nothing_of Check text old = inl (keeps_same old)
+nothing_of (Draw from to) text old = inl (keeps_same old)
+nothing_of Capture text old = inl (keeps_same old)
 nothing_of (Devices reader) text old = no_recorded (recorded_scenario reader text) old
-nothing_of (Page from to) text old = no_picture (scenario_of text) old
-nothing_of Explain text old = no_entries (reasons_text text) (scenario_of text) old
+nothing_of (Page from to) text old = inl (keeps_same old)
+nothing_of Explain text old = inl (keeps_same old)
 nothing_of Test text old = no_outcome text old
 nothing_of Device text old = no_device (device_text text) old
 nothing_of Describe text old = no_table old

@@ -31,17 +31,18 @@ use Rattle.trace_recorded.specs.declared.reader.TextReader.{TextReader}
 use Rattle.trace_recorded.specs.Faults.{IsCaptureFault}
 use Rattle.trace_recorded.specs.Scenario.{recorded_scenario}
 use Rattle.trace_scenario.specs.declared.scenario.Scenario.{Scenario}
-use Rattle.trace_main.specs.Lived.{lived_of, AppendsCallbacks, GoesOn, IsOfLive}
+use Rattle.trace_main.specs.Lived.{lived_in, AppendsCallbacks, GoesOn, IsOfLive}
+use Rattle.trace_main.specs.Source.{OfSource, Source, Stands, bad_lines_in, scenario_in, step_lines_in, text_in, told_by, told_number}
 use Rattle.trace_main.specs.Program.{status_of, AskForOther, AskForThreads, Begins, BeginsCheck, Draws, EndsLate, FindsDifference, FindsNone, IsAlone, IsBadDescriptor, IsBadLine, IsDone, IsReported, IsSilentAtBad, IsThreaded, Performs, ReadsOther, TellsRest, TellsWhy, FindsUnexpected}
 use Rattle.trace_run.specs.declared.tasks.TaskEnd.{TaskEnd}
 use Rattle.trace_run.specs.declared.tasks.TaskEnd.TheVariants.{Good, BadLines, NoDevices, Differs, Unexpected}
 use Rattle.trace_main.proofs.Begun.{keeps_same, nothing_begun, told_front}
+use Rattle.trace_main.proofs.Sources.{told_good}
 use Rattle.trace_io.specs.declared.words.Task.{Task}
 use Rattle.trace_io.specs.declared.words.Task.TheVariants.{Run, Steps, Packets, Alone, Live, Left, Check, Draw, Page, Capture, Devices, Explain, Test, Device, Describe}
 use Rattle.trace_scenario.specs.declared.findings.Counts.{Counts}
 use Rattle.trace_scenario.specs.declared.findings.Finding.{Finding}
 use Rattle.trace_io.specs.Output.{counts_line, AppendsReport, AppendsSome, AppendsSomeReport}
-use Rattle.trace_scenario.specs.StepLines.{step_lines}
 use Rattle.trace_explain.specs.Explained.{explained_text}
 use Rattle.trace_explain.specs.declared.telling.Telling.TheVariants.{Refusals}
 
@@ -50,34 +51,59 @@ one_value : (r : Result Scenario ℕ) (a b : Scenario) → r ≡ Ok a → r ≡ 
 one_value (Ok x) a b first second = let same : x ≡ a = cc first in let other : x ≡ b = cc second in sym same ∙ other
 one_value (Err line) a b first second = cc
 
--- a text without a bad line is that of its good lines
-good_is : (text : List ℕ) (s : Scenario) → bad_lines text ≡ [] → scenario_of text ≡ Ok s → good_lines text ≡ s
-good_is text s none read = one_value (scenario_of text) (good_lines text) s (none_bad 1 nothing_said (slice_split (λ b. b == 10) text) none) read
+-- a scenario without a bad line is that of its good lines
+good_is : (src : Source) (s : Scenario) → bad_lines (text_in src) ≡ [] → scenario_in src ≡ Ok s → good_lines (text_in src) ≡ s
+good_is src s none read =
+    one_value (scenario_in src) (good_lines (text_in src)) s
+    (told_good (told_number src) (scenario_of (text_in src)) (good_lines (text_in src)) (none_bad 1 nothing_said (slice_split (λ b. b == 10) (text_in src)) none)) read
+
+-- a scenario is that of its text
+of_text : (number : ℕ → ℕ) (said : Result Scenario ℕ) (s : Scenario) → told_by number said ≡ Ok s → said ≡ Ok s
+of_text number (Ok t) s is = is
+of_text number (Err line) s is = cc
+
+-- a scenario has no bad line
+none_of_good : (src : Source) (s : Scenario) → scenario_in src ≡ Ok s → bad_lines (text_in src) ≡ []
+none_of_good src s read = scenario_good 1 nothing_said s (slice_split (λ b. b == 10) (text_in src)) (of_text (told_number src) (scenario_of (text_in src)) s read)
 
 -- a check that finds nothing bad: what is said of the scenario is written
-pub all_good : (text : List ℕ) (s : Scenario) (counts : Counts) (old new : Option (List ℕ)) → bad_lines text ≡ [] → counts ≡ counts_of (good_lines text) → scenario_of text ≡ Ok s
-    → length text ≤ longest_input → Appends old new (counts_line counts ++ explained_text Refusals s.setup s.plan s.rules (step_lines text)) → IsDone Check text [] old new
-all_good text s counts old new none said read short written =
-    let same : counts ≡ counts_of s = said ∙ ap counts_of (good_is text s none read) in (
-      s,
-      read,
+pub all_good : (src : Source) (s : Scenario) (counts : Counts) (old new : Option (List ℕ)) → Stands src → bad_lines (text_in src) ≡ [] → counts ≡ counts_of (good_lines (text_in src)) → scenario_in src ≡ Ok s
+    → length src.given ≤ longest_input → Appends old new (counts_line counts ++ explained_text Refusals s.setup s.plan s.rules (step_lines_in src)) → IsDone Check src.given [] old new
+all_good src s counts old new stands none said read short written =
+    let same : counts ≡ counts_of s = said ∙ ap counts_of (good_is src s none read) in (
       short,
-      (subst (λ c. Appends old new (counts_line c ++ explained_text Refusals s.setup s.plan s.rules (step_lines text))) same written, refl),
+      (
+        src,
+        refl,
+        stands,
+        (
+          s,
+          read,
+          (subst (λ c. Appends old new (counts_line c ++ explained_text Refusals s.setup s.plan s.rules (step_lines_in src))) same written, refl),
+        ),
+      ),
     )
 
 -- or a beginning of it
-pub good_begun : (text : List ℕ) (s : Scenario) (counts : Counts) (old new : Option (List ℕ)) → bad_lines text ≡ [] → counts ≡ counts_of (good_lines text) → scenario_of text ≡ Ok s
-    → AppendsSome (counts_line counts ++ explained_text Refusals s.setup s.plan s.rules (step_lines text)) old new → Begins Check text old new
-good_begun text s counts old new none said read some =
-    let same : counts ≡ counts_of s = said ∙ ap counts_of (good_is text s none read) in
-    subst (λ r. BeginsCheck text r old new) (sym read) (subst (λ c. AppendsSome (counts_line c ++ explained_text Refusals s.setup s.plan s.rules (step_lines text)) old new) same some)
+pub good_begun : (src : Source) (s : Scenario) (counts : Counts) (old new : Option (List ℕ)) → Stands src → bad_lines (text_in src) ≡ [] → counts ≡ counts_of (good_lines (text_in src)) → scenario_in src ≡ Ok s
+    → AppendsSome (counts_line counts ++ explained_text Refusals s.setup s.plan s.rules (step_lines_in src)) old new → Begins Check src.given old new
+good_begun src s counts old new stands none said read some =
+    let same : counts ≡ counts_of s = said ∙ ap counts_of (good_is src s none read) in
+    inr (
+      src,
+      refl,
+      stands,
+      subst (λ r. BeginsCheck src r old new) (sym read)
+          (subst (λ c. AppendsSome (counts_line c ++ explained_text Refusals s.setup s.plan s.rules (step_lines_in src)) old new) same some),
+    )
 
 -- of a text with a bad line a beginning of the report
-pub bad_begun : (text : List ℕ) (old new : Option (List ℕ)) → bad_lines text ≢ [] → AppendsSomeReport (bad_lines text) (counts_of (good_lines text)) old new → Begins Check text old new
-bad_begun text old new some report = by_read (scenario_of text) refl
+pub bad_begun : (text : List ℕ) (src : Source) (old new : Option (List ℕ)) → src.given ≡ text → Stands src → bad_lines (text_in src) ≢ []
+    → AppendsSomeReport (bad_lines_in src) (counts_of (good_lines (text_in src))) old new → Begins Check text old new
+bad_begun text src old new given stands some report = inr (src, given, stands, by_read (scenario_in src) refl)
   where
-    by_read : (r : Result Scenario ℕ) → scenario_of text ≡ r → BeginsCheck text r old new
-    by_read (Ok s) read = absurd (some (scenario_good 1 nothing_said s (slice_split (λ b. b == 10) text) read))
+    by_read : (r : Result Scenario ℕ) → scenario_in src ≡ r → BeginsCheck src r old new
+    by_read (Ok s) read = absurd (some (none_of_good src s read))
     by_read (Err line) read = report
 
 -- where a bad line was found, there is one
@@ -86,75 +112,67 @@ some_bad text [] numbers some = absurd (some refl)
 some_bad text (f ∷ fs) numbers some = λ none. let gone : f.line ∷ map (λ (g : Finding). g.line) fs ≡ [] = numbers ∙ none in cc
 
 -- a run in threads ends as it may
-pub lived : (text : List ℕ) (rounds : ℕ) (s : Scenario) (notes : List ℕ) (old new : Option (List ℕ)) (r : Result TaskEnd Fault) → lived_of text ≡ Ok s
+pub lived : (text : List ℕ) (src : Source) (rounds : ℕ) (s : Scenario) (notes : List ℕ) (old new : Option (List ℕ)) (r : Result TaskEnd Fault) → src.given ≡ text → Stands src → lived_in src ≡ Ok s
     → length text ≤ longest_input → OnOk r (AppendsCallbacks s notes old new) → IfOk r (λ ending. ending ≡ Good) → IfErr r (IsOfLive s rounds notes)
     → IfErr r (λ fault. fault ≡ Rounds rounds → Keeps old new) → Performs (Live rounds) text notes old new r
-lived text rounds s notes old new (Ok Good) read short lines good fault silent = (s, read, short, lines)
-lived text rounds s notes old new (Ok BadLines) read short lines good fault silent = cc
-lived text rounds s notes old new (Ok NoDevices) read short lines good fault silent = cc
-lived text rounds s notes old new (Ok Differs) read short lines good fault silent = cc
-lived text rounds s notes old new (Ok Unexpected) read short lines good fault silent = cc
-lived text rounds s notes old new (Err (Line line)) read short lines good fault silent = absurd fault
-lived text rounds s notes old new (Err Memory) read short lines good fault silent = tt
-lived text rounds s notes old new (Err InputOutput) read short lines good fault silent = tt
-lived text rounds s notes old new (Err Closed) read short lines good fault silent = tt
-lived text rounds s notes old new (Err TooLong) read short lines good fault silent = absurd fault
-lived text rounds s notes old new (Err (Rounds told)) read short lines good fault silent = (
+lived text src rounds s notes old new (Ok Good) given stands read short lines good fault silent = (short, (src, given, stands, (s, read, lines)))
+lived text src rounds s notes old new (Ok BadLines) given stands read short lines good fault silent = cc
+lived text src rounds s notes old new (Ok NoDevices) given stands read short lines good fault silent = cc
+lived text src rounds s notes old new (Ok Differs) given stands read short lines good fault silent = cc
+lived text src rounds s notes old new (Ok Unexpected) given stands read short lines good fault silent = cc
+lived text src rounds s notes old new (Err (Line line)) given stands read short lines good fault silent = absurd fault
+lived text src rounds s notes old new (Err Memory) given stands read short lines good fault silent = tt
+lived text src rounds s notes old new (Err InputOutput) given stands read short lines good fault silent = tt
+lived text src rounds s notes old new (Err Closed) given stands read short lines good fault silent = tt
+lived text src rounds s notes old new (Err TooLong) given stands read short lines good fault silent = absurd fault
+lived text src rounds s notes old new (Err (Rounds told)) given stands read short lines good fault silent = (
   ap (λ (n : ℕ). Live n) (sym fault.0),
   silent (ap (λ (n : ℕ). Rounds n) fault.0),
-  (s, read, subst (λ (n : ℕ). GoesOn s n notes) (sym fault.0) fault.1),
+  (src, given, stands, (s, read, subst (λ (n : ℕ). GoesOn s n notes) (sym fault.0) fault.1)),
 )
-lived text rounds s notes old new (Err (Wide steps)) read short lines good fault silent = absurd fault
-lived text rounds s notes old new (Err (why.Capture refused)) read short lines good fault silent = absurd fault
-lived text rounds s notes old new (Err (why.Descriptor refused)) read short lines good fault silent = absurd fault
+lived text src rounds s notes old new (Err (Wide steps)) given stands read short lines good fault silent = absurd fault
+lived text src rounds s notes old new (Err (why.Capture refused)) given stands read short lines good fault silent = absurd fault
+lived text src rounds s notes old new (Err (why.Descriptor refused)) given stands read short lines good fault silent = absurd fault
 
 -- a run ends as it may whose capture is written
-pub captured : (text : List ℕ) (s : Scenario) (old new : Option (List ℕ)) (r : Result TaskEnd Fault) → scenario_of text ≡ Ok s → length text ≤ longest_input
-    → OnOk r (Appends old new (capture_bytes text s)) → IfOk r (λ ending. ending ≡ Good) → IfErr r (λ fault. IsOfRun fault) → Performs Capture text [] old new r
-captured text s old new (Ok Good) read short file good fault = (s, read, short, (file, refl))
-captured text s old new (Ok BadLines) read short file good fault = cc
-captured text s old new (Ok NoDevices) read short file good fault = cc
-captured text s old new (Ok Differs) read short file good fault = cc
-captured text s old new (Ok Unexpected) read short file good fault = cc
-captured text s old new (Err (Line line)) read short file good fault = absurd fault
-captured text s old new (Err Memory) read short file good fault = tt
-captured text s old new (Err InputOutput) read short file good fault = tt
-captured text s old new (Err Closed) read short file good fault = tt
-captured text s old new (Err TooLong) read short file good fault = absurd fault
-captured text s old new (Err (Rounds rounds)) read short file good fault = absurd fault
-captured text s old new (Err (Wide steps)) read short file good fault = absurd fault
-captured text s old new (Err (why.Capture refused)) read short file good fault = absurd fault
-captured text s old new (Err (why.Descriptor refused)) read short file good fault = absurd fault
+pub captured : (text : List ℕ) (src : Source) (s : Scenario) (old new : Option (List ℕ)) (r : Result TaskEnd Fault) → src.given ≡ text → Stands src → scenario_in src ≡ Ok s → length text ≤ longest_input
+    → OnOk r (Appends old new (capture_bytes (text_in src) s)) → IfOk r (λ ending. ending ≡ Good) → IfErr r (λ fault. IsOfRun fault) → Performs Capture text [] old new r
+captured text src s old new (Ok Good) given stands read short file good fault = (short, (src, given, stands, (s, read, (file, refl))))
+captured text src s old new (Ok BadLines) given stands read short file good fault = cc
+captured text src s old new (Ok NoDevices) given stands read short file good fault = cc
+captured text src s old new (Ok Differs) given stands read short file good fault = cc
+captured text src s old new (Ok Unexpected) given stands read short file good fault = cc
+captured text src s old new (Err (Line line)) given stands read short file good fault = absurd fault
+captured text src s old new (Err Memory) given stands read short file good fault = tt
+captured text src s old new (Err InputOutput) given stands read short file good fault = tt
+captured text src s old new (Err Closed) given stands read short file good fault = tt
+captured text src s old new (Err TooLong) given stands read short file good fault = absurd fault
+captured text src s old new (Err (Rounds rounds)) given stands read short file good fault = absurd fault
+captured text src s old new (Err (Wide steps)) given stands read short file good fault = absurd fault
+captured text src s old new (Err (why.Capture refused)) given stands read short file good fault = absurd fault
+captured text src s old new (Err (why.Descriptor refused)) given stands read short file good fault = absurd fault
 
--- a check of a text with a bad line isn't done
-done_is_good : (text notes : List ℕ) (old new : Option (List ℕ)) → IsDone Check text notes old new → bad_lines text ≡ []
-done_is_good text notes old new done = scenario_good 1 nothing_said done.0 (slice_split (λ b. b == 10) text) done.1
-
--- a status of 1 isn't 0
-not_zero : (status : ℕ) → status ≡ 1 → status ≢ 0
-not_zero status one zero = absurd (omega arith)
-
--- where a check finds a bad line, the status isn't 0
-bad_status : (text notes : List ℕ) (ended : Result TaskEnd Fault) (status : ℕ) (old new : Option (List ℕ)) → Performs Check text notes old new ended
-    → status ≡ status_of ended → bad_lines text ≢ [] → status ≢ 0
-bad_status text notes (Ok Good) status old new done same bad = absurd (bad (done_is_good text notes old new done))
-bad_status text notes (Ok BadLines) status old new done same bad = not_zero status same
-bad_status text notes (Ok NoDevices) status old new done same bad = not_zero status same
-bad_status text notes (Ok Differs) status old new done same bad = not_zero status same
-bad_status text notes (Ok Unexpected) status old new done same bad = λ zero. absurd (omega (arith, same, zero))
-bad_status text notes (Err fault) status old new done same bad = not_zero status same
+-- a check that ends with status 0 found no bad line
+good_status : (text notes : List ℕ) (ended : Result TaskEnd Fault) (status : ℕ) (old new : Option (List ℕ)) → Performs Check text notes old new ended
+    → status ≡ status_of ended → status ≡ 0 → OfSource text (λ src. bad_lines (text_in src) ≡ [])
+good_status text notes (Ok Good) status old new done same zero = (done.1.0, done.1.1, done.1.2, none_of_good done.1.0 done.1.3.0 done.1.3.1)
+good_status text notes (Ok BadLines) status old new done same zero = absurd (omega (arith, same, zero))
+good_status text notes (Ok NoDevices) status old new done same zero = absurd (omega (arith, same, zero))
+good_status text notes (Ok Differs) status old new done same zero = absurd (omega (arith, same, zero))
+good_status text notes (Ok Unexpected) status old new done same zero = absurd (omega (arith, same, zero))
+good_status text notes (Err fault) status old new done same zero = absurd (omega (arith, same, zero))
 
 -- words ask for one task
 one_task : (words : List Text) (t s : Task) → AskFor words t → AskFor words s → t ≡ s
 one_task words t s asks other = let same : Some t ≡ Some s = sym asks.1 ∙ other.1 in cc
 
 -- the same of words that ask for a check, whatever the input has
-pub bad_input : (words : List Text) (input : Option (List ℕ)) (t : Task) (notes : List ℕ) (ended : Result TaskEnd Fault) (status : ℕ) (old new : Option (List ℕ))
+pub good_input : (words : List Text) (input : Option (List ℕ)) (t : Task) (notes : List ℕ) (ended : Result TaskEnd Fault) (status : ℕ) (old new : Option (List ℕ))
     → AskFor words t → AskFor words Check → IfSome input (λ text. Performs t text notes old new ended) → status ≡ status_of ended
-    → IfSome input (λ text. bad_lines text ≢ [] → status ≢ 0)
-bad_input words None t notes ended status old new asks check ends same = tt
-bad_input words (Some text) t notes ended status old new asks check ends same =
-    bad_status text notes ended status old new (subst (λ (x : Task). Performs x text notes old new ended) (one_task words t Check asks check) ends) same
+    → IfSome input (λ text. status ≡ 0 → OfSource text (λ src. bad_lines (text_in src) ≡ []))
+good_input words None t notes ended status old new asks check ends same = tt
+good_input words (Some text) t notes ended status old new asks check ends same =
+    good_status text notes ended status old new (subst (λ (x : Task). Performs x text notes old new ended) (one_task words t Check asks check) ends) same
 
 -- what is told of a task that is done
 done_rest : (t : Task) (text notes : List ℕ) (ended : Result TaskEnd Fault) (status : ℕ) (old new err_old err_new : Option (List ℕ)) → Performs t text notes old new ended

@@ -1,6 +1,7 @@
 pub mod Described
 pub mod Lived
 pub mod Program
+pub mod Source
 pub use Rattle.trace_io.specs.CommandLine
 pub use Rattle.trace_io.specs.Faults
 pub use Rattle.trace_io.specs.Input

@@ -22,6 +22,7 @@ use Rattle.trace_io.specs.declared.fault.Fault.{Fault}
 use Rattle.trace_io.specs.declared.fault.Fault.TheVariants.{Rounds}
 use Rattle.trace_scenario.specs.declared.scenario.Scenario.{Scenario}
 use Rattle.trace_scenario.specs.Scenario.{scenario_of}
+use Rattle.trace_main.specs.Source.{Source, text_in, told_by, told_number}
 
 -- whether a line asks for what no handle's thread does: the end of a transfer's time, or of a device
 abbrev pub is_unlived : Option Line → Bool
@@ -43,6 +44,10 @@ earlier (Some at) (Err line) = Err (min line at)
 -- the scenario of a text that is run in threads; or the number of its first line that isn't taken, or asks for what no thread does
 abbrev pub lived_of : List ℕ → Result Scenario ℕ
 lived_of text = earlier (first_unlived 1 (slice_split (λ b. b == 10) text)) (scenario_of text)
+
+-- the same of what a text stands for
+abbrev pub lived_in : Source → Result Scenario ℕ
+lived_in src = told_by (told_number src) (lived_of (text_in src))
 
 -- the lines of what handles hadn't finished where a run of these steps ends
 abbrev pub unfinished_text : Scenario → List Step → List ℕ

@@ -5,18 +5,18 @@ use Rattle.trace_io.specs.declared.fault.Fault.{Fault}
 use Rattle.trace_io.specs.declared.fault.Fault.TheVariants.{Line, Memory, InputOutput, Closed, TooLong, Rounds, Wide, Capture, Descriptor}
 use Rattle.trace_run.specs.declared.tasks.TaskEnd.{TaskEnd}
 use Rattle.trace_run.specs.declared.tasks.TaskEnd.TheVariants.{Good, BadLines, NoDevices, Differs, Unexpected}
-use Rattle.trace_run.specs.Tasks.{AppendsAny, alone_text, capture_bytes, left_lines, run_text, steps_text}
+use Rattle.trace_run.specs.Stepwise.{stepwise_text}
+use Rattle.trace_run.specs.Tasks.{AppendsAny, alone_text, capture_bytes, left_lines, run_text}
 use Rattle.trace_recorded.specs.declared.capture_fault.CaptureFault.{CaptureFault}
 use Rattle.trace_recorded.specs.declared.scenario.RecordedScenario.{RecordedScenario}
 use Rattle.trace_recorded.specs.declared.reader.TextReader.{TextReader}
 use Rattle.trace_recorded.specs.Scenario.{recorded_scenario}
 use Rattle.trace_descriptor.specs.declared.fault.DescriptorFault.{DescriptorFault}
 use Rattle.trace_descriptor.specs.Device.{device_text}
-use Rattle.trace_scenario.specs.StepLines.{step_lines}
 use Rattle.trace_explain.specs.Explained.{explained_text}
 use Rattle.trace_explain.specs.declared.telling.Telling.{Telling}
 use Rattle.trace_explain.specs.declared.telling.Telling.TheVariants.{Reasons, Refusals, Packets, StepPackets}
-use Rattle.trace_judged.specs.Text.{judged_text}
+use Rattle.trace_judged.specs.Text as written
 use Rattle.trace_judged.specs.declared.unexpected.Unexpected as judged
 use Rattle.trace_test.specs.Tests.{IsOfTest, IsOutcome, outcome_text}
 use Rattle.trace_test.specs.declared.difference.Difference.{Difference}
@@ -32,8 +32,8 @@ use Rattle.trace_io.specs.Input.{longest_input}
 use Rattle.trace_io.specs.Output.{counts_line, AppendsReport, AppendsSome, AppendsSomeReport}
 use Rattle.trace_scenario.specs.Counts.{counts_of}
 use Rattle.trace_scenario.specs.Findings.{bad_lines, good_lines}
-use Rattle.trace_scenario.specs.Scenario.{scenario_of}
-use Rattle.trace_main.specs.Lived.{lived_of, AppendsCallbacks, BeginsCallbacks, GoesOn}
+use Rattle.trace_main.specs.Lived.{lived_in, AppendsCallbacks, BeginsCallbacks, GoesOn}
+use Rattle.trace_main.specs.Source.{Source, BeginsOf, OfSource, bad_lines_in, scenario_in, step_lines_in, text_in}
 
 -- a task reads something else than a scenario, or a scenario whose bad lines it tells itself
 abbrev pub ReadsOther : Task → Type 0
@@ -44,13 +44,13 @@ ReadsOther task.Device = ⊤
 ReadsOther task.Describe = ⊤
 ReadsOther t = ⊥
 
--- what is told of the run of this text's scenario
-abbrev pub told_text : Telling → List ℕ → Scenario → List ℕ
-told_text telling text s = explained_text telling s.setup s.plan s.rules (step_lines text)
+-- what is told of the run of a scenario
+abbrev pub told_text : Telling → Source → Scenario → List ℕ
+told_text telling src s = explained_text telling s.setup s.plan s.rules (step_lines_in src)
 
--- all entries, each behind the line of its step in this text, with their reasons
-abbrev pub reasons_text : List ℕ → Scenario → List ℕ
-reasons_text text s = told_text Reasons text s
+-- all entries, each behind the line of its step, with their reasons
+abbrev pub reasons_text : Source → Scenario → List ℕ
+reasons_text src s = told_text Reasons src s
 
 -- packets, below entries that stand behind their lines or alone
 abbrev pub packets_told : Bool → Telling
@@ -58,23 +58,31 @@ packets_told true = StepPackets
 packets_told false = Packets
 
 -- all entries with the packets that moved, perhaps each behind the line of its step
-abbrev pub packets_text : Bool → List ℕ → Scenario → List ℕ
-packets_text steps text s = told_text (packets_told steps) text s
+abbrev pub packets_text : Bool → Source → Scenario → List ℕ
+packets_text steps src s = told_text (packets_told steps) src s
+
+-- all entries, each behind the line of its step
+abbrev pub steps_text : Source → Scenario → List ℕ
+steps_text src s = stepwise_text s.setup s.plan s.rules (step_lines_in src)
 
 -- what a check says of a text without a bad line: how much the scenario says, and which lines its run refuses, with the reasons
-abbrev pub check_text : List ℕ → Scenario → List ℕ
-check_text text s = counts_line (counts_of s) ++ explained_text Refusals s.setup s.plan s.rules (step_lines text)
+abbrev pub check_text : Source → Scenario → List ℕ
+check_text src s = counts_line (counts_of s) ++ explained_text Refusals s.setup s.plan s.rules (step_lines_in src)
 
 -- what a task prints of a run that is judged: entries, alone or behind their lines, or what is left behind; of another nothing is judged
-abbrev pub run_printed : Task → List ℕ → Scenario → Option (List ℕ)
-run_printed task.Run text s = Some (run_text s)
-run_printed task.Steps text s = Some (steps_text text s)
-run_printed task.Left text s = Some (left_lines s)
-run_printed t text s = None
+abbrev pub run_printed : Task → Source → Scenario → Option (List ℕ)
+run_printed task.Run src s = Some (run_text s)
+run_printed task.Steps src s = Some (steps_text src s)
+run_printed task.Left src s = Some (left_lines s)
+run_printed t src s = None
 
--- what such a task prints, with what the run wrote that isn't as expected behind it
-abbrev pub with_judged : (List ℕ → Scenario → List ℕ) → List ℕ → Scenario → List ℕ
-with_judged printed text s = printed text s ++ judged_text text s
+-- what the run wrote that isn't as expected: no byte, where all is
+abbrev pub judged_text : Source → Scenario → List ℕ
+judged_text src s = written.told_text (written.unexpected_by (text_in src) s (step_lines_in src))
+
+-- what such a task prints, with that behind it
+abbrev pub with_judged : (Source → Scenario → List ℕ) → Source → Scenario → List ℕ
+with_judged printed src s = printed src s ++ judged_text src s
 
 -- behind a run it is told what it wrote that isn't as expected: nothing, where it ends well, and else that
 abbrev pub EndsTold : (told : List ℕ) → Option (List ℕ) → Option (List ℕ) → Result TaskEnd Fault → Type 0
@@ -83,18 +91,21 @@ EndsTold told old new (Ok Unexpected) = (told ≢ []) × Appends old new told
 EndsTold told old new (Ok ending) = ⊥
 EndsTold told old new (Err fault) = IsOfRun fault × AppendsSome told old new
 
-abbrev pub EndsJudged : List ℕ → Scenario → Option (List ℕ) → Option (List ℕ) → Result TaskEnd Fault → Type 0
-EndsJudged text s old new result = EndsTold (judged_text text s) old new result
+abbrev pub EndsJudged : Source → Scenario → Option (List ℕ) → Option (List ℕ) → Result TaskEnd Fault → Type 0
+EndsJudged src s old new result = EndsTold (judged_text src s) old new result
 
 -- the text is a test of the longest length at most, this came of it, and that is written
 abbrev pub WritesOutcome : List ℕ → TestOutcome → Option (List ℕ) → Option (List ℕ) → Type 0
 WritesOutcome text outcome old new = IsOutcome text outcome × (length text ≤ longest_input) × Appends old new (outcome_text outcome)
 
 -- what is done with a run that wrote something else than its scenario expects: what the task prints of it is written, and that behind it
+abbrev pub PrintsJudged : Task → Option (List ℕ) → Option (List ℕ) → Source → Type 0
+PrintsJudged t old new src =
+    (s : Scenario) × (printed : List ℕ) × (scenario_in src ≡ Ok s) × (run_printed t src s ≡ Some printed)
+    × (judged_text src s ≢ []) × Appends old new (printed ++ judged_text src s)
+
 abbrev pub FindsJudged : Task → List ℕ → Option (List ℕ) → Option (List ℕ) → Type 0
-FindsJudged t text old new =
-    (s : Scenario) × (printed : List ℕ) × (scenario_of text ≡ Ok s) × (length text ≤ longest_input) × (run_printed t text s ≡ Some printed)
-    × (judged_text text s ≢ []) × Appends old new (printed ++ judged_text text s)
+FindsJudged t text old new = (length text ≤ longest_input) × OfSource text (PrintsJudged t old new)
 
 -- what is done with one of any task: of a test whose lines found what they expect what came of it is written
 abbrev pub FindsUnexpected : Task → List ℕ → Option (List ℕ) → Option (List ℕ) → Type 0
@@ -131,9 +142,9 @@ BeginsRecorded (Ok r) old new = AppendsSome r.text old new
 BeginsRecorded (Err fault) old new = Keeps old new
 
 -- what a check may have written: a beginning of what it says of a scenario, or of the report on bad lines
-abbrev pub BeginsCheck : List ℕ → Result Scenario ℕ → Option (List ℕ) → Option (List ℕ) → Type 0
-BeginsCheck text (Ok s) old new = AppendsSome (check_text text s) old new
-BeginsCheck text (Err line) old new = AppendsSomeReport (bad_lines text) (counts_of (good_lines text)) old new
+abbrev pub BeginsCheck : Source → Result Scenario ℕ → Option (List ℕ) → Option (List ℕ) → Type 0
+BeginsCheck src (Ok s) old new = AppendsSome (check_text src s) old new
+BeginsCheck src (Err line) old new = AppendsSomeReport (bad_lines_in src) (counts_of (good_lines (text_in src))) old new
 
 -- what a test may have written: a beginning of what came of it
 abbrev pub BeginsOutcome : List ℕ → Option (List ℕ) → Option (List ℕ) → Type 0
@@ -155,30 +166,30 @@ pub record Word : Type 1 where
   -- a fault of a file of descriptors ends it
   pub bad_descriptor : (text : List ℕ) → DescriptorFault → Type 0
 
--- one that reads a scenario of the longest length at most, in this way, and makes this of it: its first bad line ends it
-abbrev pub of_scenario : (read : List ℕ → Result Scenario ℕ) → (List ℕ → Scenario → List ℕ → Option (List ℕ) → Option (List ℕ) → Type 0) → (List ℕ → Option (List ℕ) → Option (List ℕ) → Type 0) → Word
+-- one that reads a scenario, or the one that a test stands for, of the longest length at most, in this way, and makes this of it: its first bad line ends it
+abbrev pub of_scenario : (read : Source → Result Scenario ℕ) → (Source → Scenario → List ℕ → Option (List ℕ) → Option (List ℕ) → Type 0) → (Source → Option (List ℕ) → Option (List ℕ) → Type 0) → Word
 of_scenario read writes begins = record {
-  done = λ text notes old new. (s : Scenario) × (read text ≡ Ok s) × (length text ≤ longest_input) × writes text s notes old new;
-  begun = begins;
-  bad_line = λ text line. read text ≡ Err line;
+  done = λ text notes old new. (length text ≤ longest_input) × OfSource text (λ src. (s : Scenario) × (read src ≡ Ok s) × writes src s notes old new);
+  begun = BeginsOf begins;
+  bad_line = λ text line. OfSource text (λ src. read src ≡ Err line);
   bad_descriptor = λ text fault. ⊥;
 }
 
 -- one that prints this of a scenario
-abbrev pub prints : (List ℕ → Scenario → List ℕ) → Word
-prints said = of_scenario scenario_of (λ text s notes old new. Appends old new (said text s) × (notes ≡ [])) (λ text old new. BeginsEntries (said text) (scenario_of text) old new)
+abbrev pub prints : (Source → Scenario → List ℕ) → Word
+prints said = of_scenario scenario_in (λ src s notes old new. Appends old new (said src s) × (notes ≡ [])) (λ src old new. BeginsEntries (said src) (scenario_in src) old new)
 
 -- one that prints this of a run that is judged: it ends well where all that was written is as expected
-abbrev pub prints_judged : (List ℕ → Scenario → List ℕ) → Word
+abbrev pub prints_judged : (Source → Scenario → List ℕ) → Word
 prints_judged said =
     of_scenario
-    scenario_of
-    (λ text s notes old new. (judged_text text s ≡ []) × Appends old new (said text s) × (notes ≡ []))
-    (λ text old new. BeginsEntries (with_judged said text) (scenario_of text) old new)
+    scenario_in
+    (λ src s notes old new. (judged_text src s ≡ []) × Appends old new (said src s) × (notes ≡ []))
+    (λ src old new. BeginsEntries (with_judged said src) (scenario_in src) old new)
 
 -- one that draws, of which no more is said than that it writes something
 abbrev pub draws : Word
-draws = of_scenario scenario_of (λ text s notes old new. AppendsAny old new × (notes ≡ [])) (λ text old new. BeginsPicture (scenario_of text) old new)
+draws = of_scenario scenario_in (λ src s notes old new. AppendsAny old new × (notes ≡ [])) (λ src old new. BeginsPicture (scenario_in src) old new)
 
 -- one that reads something else, does this with it, and may have written so much
 abbrev pub of_another : (List ℕ → List ℕ → Option (List ℕ) → Option (List ℕ) → Type 0) → (List ℕ → Option (List ℕ) → Option (List ℕ) → Type 0) → Word
@@ -205,16 +216,16 @@ describes = record (of_another (λ text notes old new. (length text ≤ longest_
 
 -- all entries, perhaps behind their lines, those of one handle alone, what callbacks were told in threads, what is left behind, how much the scenario says and what its run refuses, a picture, a capture, the devices of one, all entries with their reasons or their packets, what came of a test, a device's lines or a table
 abbrev pub word_of : Task → Word
-word_of task.Run = prints_judged (λ text. run_text)
+word_of task.Run = prints_judged (λ src. run_text)
 word_of task.Steps = prints_judged steps_text
 word_of (task.Packets steps) = prints (packets_text steps)
-word_of (task.Alone h) = prints (λ text. alone_text h)
-word_of (task.Live rounds) = of_scenario lived_of (λ text. AppendsCallbacks) (λ text old new. BeginsCallbacks (lived_of text) old new)
-word_of task.Left = prints_judged (λ text. left_lines)
-word_of task.Check = record (prints check_text) { begun = λ text old new. BeginsCheck text (scenario_of text) old new; bad_line = λ text line. ⊥ }
+word_of (task.Alone h) = prints (λ src. alone_text h)
+word_of (task.Live rounds) = of_scenario lived_in (λ src. AppendsCallbacks) (λ src old new. BeginsCallbacks (lived_in src) old new)
+word_of task.Left = prints_judged (λ src. left_lines)
+word_of task.Check = record (prints check_text) { begun = BeginsOf (λ src old new. BeginsCheck src (scenario_in src) old new); bad_line = λ text line. ⊥ }
 word_of (task.Draw from to) = draws
 word_of (task.Page from to) = draws
-word_of task.Capture = prints capture_bytes
+word_of task.Capture = prints (λ src. capture_bytes (text_in src))
 word_of (task.Devices reader) = prints_devices reader
 word_of task.Explain = prints reasons_text
 word_of task.Test = tests
@@ -239,7 +250,8 @@ IsBadDescriptor t text fault = (word_of t).bad_descriptor text fault
 
 -- what a check does that finds bad lines: a line with the number of each is written, and then how much the good ones say
 abbrev pub IsReported : List ℕ → Option (List ℕ) → Option (List ℕ) → Type 0
-IsReported text old new = (bad_lines text ≢ []) × (length text ≤ longest_input) × AppendsReport (bad_lines text) (counts_of (good_lines text)) old new
+IsReported text old new =
+    (length text ≤ longest_input) × OfSource text (λ src. (bad_lines (text_in src) ≢ []) × AppendsReport (bad_lines_in src) (counts_of (good_lines (text_in src))) old new)
 
 -- what is done with a capture in which no device is kept: what is said of the others is written
 abbrev pub FindsNone : TextReader → List ℕ → Option (List ℕ) → Option (List ℕ) → Type 0
@@ -251,7 +263,7 @@ FindsDifference text old new = (difference : Difference) × WritesOutcome text (
 
 -- the scenario of a text that is run in threads goes on for more callbacks than so many; and this wasn't finished then
 abbrev pub EndsLate : List ℕ → ℕ → (notes : List ℕ) → Type 0
-EndsLate text rounds notes = (s : Scenario) × (lived_of text ≡ Ok s) × GoesOn s rounds notes
+EndsLate text rounds notes = OfSource text (λ src. (s : Scenario) × (lived_in src ≡ Ok s) × GoesOn s rounds notes)
 
 -- a task draws
 abbrev pub Draws : Task → Type 0
@@ -282,9 +294,9 @@ IsAlone notes (Rounds rounds) = ⊤
 IsAlone notes fault = notes ≡ []
 
 -- why what is to be told of a text's run can't be: its first bad line, or memory
-abbrev pub IsUntold : List ℕ → Fault → Type 0
-IsUntold text (Line line) = scenario_of text ≡ Err line
-IsUntold text fault = fault ≡ Memory
+abbrev pub IsUntold : Source → Fault → Type 0
+IsUntold src (Line line) = scenario_in src ≡ Err line
+IsUntold src fault = fault ≡ Memory
 
 -- whether this fault may be what ended a run with these words over this input, and this is to be told behind it: a line is one where the words ask for a task that reads a scenario, and it is the first that is bad for that; an input is too long where they ask for a task and it is; callbacks are too many where they ask for so many at most and a run has more, of which then it is told what wasn't finished; steps are too many where they ask for a picture; a capture is refused where they ask for its devices, and so; a descriptor where they ask for its lines or its table; memory and streams may fail always
 abbrev pub MayEnd : List Text → Option (List ℕ) → (notes : List ℕ) → Fault → Type 0
@@ -332,6 +344,6 @@ status_of (Ok Differs) = 1
 status_of (Ok Unexpected) = 3
 status_of (Err fault) = 1
 
--- nothing is written where a line of the text is bad
+-- nothing is written, but of a text that stands for a scenario
 abbrev pub IsSilentAtBad : List ℕ → Option (List ℕ) → Option (List ℕ) → Type 0
-IsSilentAtBad text old new = (line : ℕ) → scenario_of text ≡ Err line → Keeps old new
+IsSilentAtBad text old new = Keeps old new ⊎ OfSource text (λ src. (s : Scenario) × (scenario_in src ≡ Ok s))

@@ -1,6 +1,6 @@
 //! What is wrong with a scenario, line by line, and what its run refuses.
 
-ghost use Rattle.std.specs.Prelude.{◌≡◌, ◌++◌, ◌≤◌, [], IfOk, length, map};
+ghost use Rattle.std.specs.Prelude.{◌≡◌, ◌++◌, ◌∷◌, ◌≤◌, [], IfOk, length, map};
 ghost use Rattle.trace_explain.specs.Explained.{explained_text};
 ghost use Rattle.trace_explain.specs.declared.telling.Telling.TheVariants.{Refusals};
 ghost use Rattle.trace_io.specs.Input.{longest_input};
@@ -10,7 +10,9 @@ ghost use Rattle.trace_scenario.specs.Counts.{counts_of};
 ghost use Rattle.trace_scenario.specs.Findings.{bad_lines, good_lines};
 ghost use Rattle.trace_scenario.specs.StepLines.{numbered};
 ghost use Rattle.trace_main.specs.Program.{Begins, Performs};
+ghost use Rattle.trace_main.specs.Source.{Stands, text_in, told_number};
 
+use crate::source::Source;
 use crate::told::write_all;
 use std::alloc::{AllocError, Global};
 use std::io::Write;
@@ -18,22 +20,49 @@ use trace_explain::{Telling, explained_run};
 use trace_io::Fault;
 use trace_io::print::print_findings;
 use trace_run::TaskEnd;
-use trace_scenario::{Counts, Lined, NumberedLine, Scenario, check, read_lined};
+use trace_scenario::{Counts, Finding, Findings, Lined, NumberedLine, Scenario, check};
 use usb_device::into_setups;
 
+/// Adds a bad line by this number.
+fn add<'a>(told: &mut Vec<Finding<'a>>, line: u64, finding: &Finding<'a>) -> Result<(), AllocError>
+    ensures { IfOk result (λ _. map (λ finding. finding.line) told.new.items ≡ map (λ finding. finding.line) told.old.items ++ line ∷ []) }
+{
+    let told_finding = Finding { line, ..*finding };
+    match told.push(told_finding) {
+        Ok(()) => Ok(()),
+        Err(_) => Err(AllocError),
+    }
+}
+
+/// Bad lines with the numbers by which they are told.
+fn told_findings<'a>(
+    alloc: Global,
+    source: &Source<'_>,
+    bad: &[Finding<'a>],
+) -> Result<Vec<Finding<'a>>, AllocError>
+    ensures { IfOk result (λ told. map (λ finding. finding.line) told.items ≡ map (told_number source.now) (map (λ finding. finding.line) bad.now)) }
+{
+    let mut told = Vec::new(alloc);
+    for finding in bad {
+        add(&mut told, source.number(finding.line), finding)?;
+    }
+    Ok(told)
+}
+
 /// Checks a text: prints its bad lines, and how much the good ones say; and of a text without a bad line which lines its run refuses, and why.
+#[tactic(auto, using(crate::proofs::Begun::nothing_of, crate::proofs::Words::check_of, crate::proofs::Words::check_begun_of))]
 pub(crate) fn report<W: Write>(alloc: Global, text: &[u8], out: &mut W) -> Result<TaskEnd, Fault>
     requires { length text.now ≤ longest_input }
     ensures ends { Performs Check text.now [] (W.contents out.old) (W.contents out.new) result }
     ensures begun { Begins Check text.now (W.contents out.old) (W.contents out.new) }
 {
-    let Ok(findings) = check(alloc, text) else {
-        return Err(Fault::Memory);
-    };
-    if findings.bad.is_empty() {
-        return report_good(alloc, text, &findings.counts, out);
+    let source = Source::new(alloc, text)?;
+    let Findings { bad, counts } = check(alloc, source.text())?;
+    if bad.is_empty() {
+        return report_good(alloc, &source, &counts, out);
     }
-    print_findings(alloc, out, &findings)?;
+    let bad = told_findings(alloc, &source, bad.as_slice())?;
+    print_findings(alloc, out, &Findings { bad, counts })?;
     Ok(TaskEnd::BadLines)
 }
 
@@ -58,18 +87,20 @@ fn said(
     Ok(text)
 }
 
-/// Prints how much the scenario of a text without a bad line says, and which lines its run refuses.
+/// Prints how much a scenario without a bad line says, and which lines its run refuses.
+#[tactic(auto, using(crate::proofs::Begun::nothing_of))]
 fn report_good<W: Write>(
     alloc: Global,
-    text: &[u8],
+    source: &Source<'_>,
     counts: &Counts,
     out: &mut W,
 ) -> Result<TaskEnd, Fault>
-    requires short { length text.now ≤ longest_input }
-    requires good { bad_lines text.now ≡ [] }
-    requires counts { counts.now ≡ counts_of (good_lines text.now) }
-    ensures ends { Performs Check text.now [] (W.contents out.old) (W.contents out.new) result }
-    ensures begun { Begins Check text.now (W.contents out.old) (W.contents out.new) }
+    requires short { length source.now.given ≤ longest_input }
+    requires stands { Stands source.now }
+    requires good { bad_lines (text_in source.now) ≡ [] }
+    requires counts { counts.now ≡ counts_of (good_lines (text_in source.now)) }
+    ensures ends { Performs Check source.now.given [] (W.contents out.old) (W.contents out.new) result }
+    ensures begun { Begins Check source.now.given (W.contents out.old) (W.contents out.new) }
 {
     let Ok(
         Lined {
@@ -77,10 +108,11 @@ fn report_good<W: Write>(
             lines,
             ..
         },
-    ) = read_lined(alloc, text)
+    ) = source.read(alloc)
     else {
         return Err(Fault::Memory);
     };
+    let lines = source.told(alloc, lines.as_slice())?;
     let said = said(alloc, counts, scenario, lines.as_slice())?;
     write_all(out, said.as_slice())?;
     Ok(TaskEnd::Good)

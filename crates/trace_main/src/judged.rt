@@ -2,32 +2,46 @@
 
 ghost use Rattle.std.specs.Prelude.{◌≡◌, ◌≤◌, [], IfErr, IfOk, Ok, length};
 ghost use Rattle.trace_io.specs.Input.{longest_input};
-ghost use Rattle.trace_io.specs.declared.words.Task.TheVariants.{Left, Run, Steps};
-ghost use Rattle.trace_scenario.specs.Scenario.{scenario_of};
+ghost use Rattle.trace_io.specs.declared.words.Task.TheVariants.{Alone, Left, Run, Steps};
+ghost use Rattle.trace_judged.specs.Text as written;
 ghost use Rattle.trace_scenario.specs.declared.scenario.Scenario.{Scenario};
-ghost use Rattle.trace_main.specs.Program.{Begins, EndsTold, IsSilentAtBad, IsUntold, Performs};
-ghost use Rattle.trace_judged.specs.Text.{judged_text};
+ghost use Rattle.trace_main.specs.Program.{Begins, EndsTold, IsSilentAtBad, IsUntold, Performs, judged_text};
+ghost use Rattle.trace_main.specs.Source.{scenario_in};
 
+use crate::source::Source;
 use crate::told::write_all;
-use std::alloc::Global;
+use std::alloc::{AllocError, Global};
 use std::io::Write;
 use trace_io::Fault;
-use trace_judged::judged_text;
-use trace_run::{TaskEnd, print_left, print_steps, run};
-use trace_scenario::{Lined, read_lined, read_scenario};
-use usb_scripttext::TextFault;
+use trace_judged::{Unexpected, unexpected_by};
+use trace_run::{TaskEnd, print_left, print_steps, run, run_alone};
+use trace_scenario::{Lined, Scenario};
+use usb_model::Name;
 
-/// What is told of a text's scenario behind its run: what it wrote that isn't as expected, if there is any. It is known before anything is
-/// printed, so that want of memory leaves no line.
-fn judged(alloc: Global, text: &[u8]) -> Result<Vec<u8>, Fault>
-    ensures told { IfOk result (λ told. (s : Scenario) → scenario_of text.now ≡ Ok s → told.items ≡ judged_text text.now s) }
-    ensures fault { IfErr result (IsUntold text.now) }
+/// What is told of a run in lines; none where nothing is.
+fn told_lines(alloc: Global, unexpected: Option<Unexpected>) -> Result<Vec<u8>, AllocError>
+    ensures { IfOk result (λ told. told.items ≡ written.told_text unexpected) }
 {
-    match judged_text(alloc, text) {
-        Ok(told) => Ok(told),
-        Err(TextFault::Line(line)) => Err(Fault::Line(line)),
-        Err(TextFault::Memory) => Err(Fault::Memory),
+    match unexpected {
+        Some(unexpected) => unexpected.lines(alloc),
+        None => Ok(Vec::new(alloc)),
     }
+}
+
+/// What is told of a scenario behind its run: what it wrote that isn't as expected, if there is any. It is known before anything is
+/// printed, so that want of memory leaves no line.
+fn judged(alloc: Global, source: &Source<'_>) -> Result<Vec<u8>, Fault>
+    ensures told { IfOk result (λ told. (s : Scenario) → scenario_in source.now ≡ Ok s → told.items ≡ judged_text source.now s) }
+    ensures fault { IfErr result (IsUntold source.now) }
+{
+    let Lined {
+        scenario,
+        lines,
+        ..
+    } = source.read(alloc)?;
+    let lines = source.told(alloc, lines.as_slice())?;
+    let unexpected = unexpected_by(alloc, source.text(), scenario, lines.as_slice())?;
+    Ok(told_lines(alloc, unexpected)?)
 }
 
 /// Tells it behind the run, if there is any.
@@ -42,44 +56,70 @@ fn tell_judged<W: Write>(told: Vec<u8>, out: &mut W) -> Result<TaskEnd, Fault>
 }
 
 /// Prints the entries of a text's scenario.
+#[tactic(auto, using(crate::proofs::Begun::nothing_of, crate::proofs::Words::silent_same, crate::proofs::Words::silent_of, crate::proofs::Words::run_untold))]
 pub(crate) fn entries<W: Write>(alloc: Global, text: &[u8], out: &mut W) -> Result<TaskEnd, Fault>
     requires { length text.now ≤ longest_input }
     ensures ends { Performs Run text.now [] (W.contents out.old) (W.contents out.new) result }
     ensures silent { IsSilentAtBad text.now (W.contents out.old) (W.contents out.new) }
     ensures begun { Begins Run text.now (W.contents out.old) (W.contents out.new) }
 {
-    let told = judged(alloc, text)?;
-    let scenario = read_scenario(alloc, text)?;
+    let source = Source::new(alloc, text)?;
+    let told = judged(alloc, &source)?;
+    let scenario = source.scenario(alloc)?;
     run(alloc, scenario, out)?;
     tell_judged(told, out)
 }
 
 /// Prints the entries of a text's scenario, each behind the number and the text of its step's line.
+#[tactic(auto, using(crate::proofs::Begun::nothing_of, crate::proofs::Words::silent_same, crate::proofs::Words::silent_of, crate::proofs::Words::steps_untold))]
 pub(crate) fn steps<W: Write>(alloc: Global, text: &[u8], out: &mut W) -> Result<TaskEnd, Fault>
     requires { length text.now ≤ longest_input }
     ensures ends { Performs Steps text.now [] (W.contents out.old) (W.contents out.new) result }
     ensures silent { IsSilentAtBad text.now (W.contents out.old) (W.contents out.new) }
     ensures begun { Begins Steps text.now (W.contents out.old) (W.contents out.new) }
 {
-    let told = judged(alloc, text)?;
+    let source = Source::new(alloc, text)?;
+    let told = judged(alloc, &source)?;
     let Lined {
         scenario,
         lines,
         ..
-    } = read_lined(alloc, text)?;
+    } = source.read(alloc)?;
+    let lines = source.told(alloc, lines.as_slice())?;
     print_steps(alloc, scenario, lines.as_slice(), out)?;
     tell_judged(told, out)
 }
 
 /// Prints what the run of a text's scenario leaves behind.
+#[tactic(auto, using(crate::proofs::Begun::nothing_of, crate::proofs::Words::silent_same, crate::proofs::Words::silent_of, crate::proofs::Words::left_untold))]
 pub(crate) fn left<W: Write>(alloc: Global, text: &[u8], out: &mut W) -> Result<TaskEnd, Fault>
     requires { length text.now ≤ longest_input }
     ensures ends { Performs Left text.now [] (W.contents out.old) (W.contents out.new) result }
     ensures silent { IsSilentAtBad text.now (W.contents out.old) (W.contents out.new) }
     ensures begun { Begins Left text.now (W.contents out.old) (W.contents out.new) }
 {
-    let told = judged(alloc, text)?;
-    let scenario = read_scenario(alloc, text)?;
+    let source = Source::new(alloc, text)?;
+    let told = judged(alloc, &source)?;
+    let scenario = source.scenario(alloc)?;
     print_left(alloc, scenario, out)?;
     tell_judged(told, out)
+}
+
+/// Prints the entries of a handle of a text's scenario, alone over its own steps.
+#[tactic(auto, using(crate::proofs::Begun::nothing_of, crate::proofs::Words::silent_same, crate::proofs::Words::silent_of, crate::proofs::Words::alone_ends, crate::proofs::Words::alone_begun))]
+pub(crate) fn alone<W: Write>(
+    alloc: Global,
+    text: &[u8],
+    h: Name,
+    out: &mut W,
+) -> Result<TaskEnd, Fault>
+    requires { length text.now ≤ longest_input }
+    ensures ends { Performs (Alone h) text.now [] (W.contents out.old) (W.contents out.new) result }
+    ensures silent { IsSilentAtBad text.now (W.contents out.old) (W.contents out.new) }
+    ensures begun { Begins (Alone h) text.now (W.contents out.old) (W.contents out.new) }
+{
+    let source = Source::new(alloc, text)?;
+    let Scenario { setup, .. } = source.scenario(alloc)?;
+    let scenario = source.scenario(alloc)?;
+    run_alone(alloc, scenario, setup, h, out)
 }

@@ -9,6 +9,7 @@
 //! # Files
 //!
 //! - `program.rt`, specs/Program: `trace`, over any reader and writers
+//! - `source.rt`, specs/Source: the scenario that a text stands for, itself or as a test, and the numbers of its lines
 //! - `live.rt`, `lived.rt`, specs/Lived: a scenario run in threads, and which lines it can't have
 //! - `checked.rt`, `told.rt`, `tested.rt`, `picture.rt`: what is wrong with a scenario, and what its run refuses; its run with
 //!   its reasons or its packets, as a test, and as a picture or a page
@@ -17,6 +18,9 @@
 //! - `described.rt`, specs/Described: one device of a capture, and what a file says of it
 //!
 //! # Contracts
+//!
+//! A text that is a scenario's stands for itself, and any other for what its lines stand for in a test (`Stands`); a line is told by its
+//! number in the text. Below, a text's scenario is the one that it stands for.
 //!
 //! - `trace`, status 0: the words asked for a task, the input is a scenario's text of at most 67,108,864 bytes, and
 //!   what was written is, byte for byte, the lines of its run, these with the number and the text of its step's line
@@ -76,6 +80,7 @@ mod lived;
 mod picture;
 mod program;
 mod recorded;
+mod source;
 mod tested;
 mod told;
 

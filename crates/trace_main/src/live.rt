@@ -10,7 +10,8 @@ ghost use Rattle.trace_main.specs.Lived.{AppendsCallbacks, AppendsSomeCallbacks,
 ghost use Rattle.trace_main.specs.Program.{Begins, IsAlone, IsSilentAtBad, Performs};
 ghost use Rattle.trace_run.specs.declared.tasks.TaskEnd.TheVariants.{BadLines, NoDevices};
 
-use crate::lived::read_lived;
+use crate::lived::lived;
+use crate::source::Source;
 use std::alloc::Global;
 use std::io::Write;
 use std::sync::Wait;
@@ -63,6 +64,7 @@ fn live_scenario<T: Threads + Wait + Sync, W: Write>(
 
 /// Runs the scenario of a text in threads, and prints what its callbacks were told, by handle and number; nothing where a
 /// line is bad, or more than so many are called. The notes are then the lines of what handles hadn't finished.
+#[tactic(auto, using(crate::proofs::Begun::nothing_of, crate::proofs::Words::silent_same, crate::proofs::Words::silent_of))]
 pub(crate) fn live<T: Threads + Wait + Sync, W: Write>(
     rt: &T,
     alloc: Global,
@@ -80,5 +82,6 @@ pub(crate) fn live<T: Threads + Wait + Sync, W: Write>(
     ensures silent { IsSilentAtBad text.now (W.contents out.old) (W.contents out.new) }
     ensures begun { Begins (Live rounds) text.now (W.contents out.old) (W.contents out.new) }
 {
-    live_scenario(rt, alloc, read_lived(alloc, text)?, rounds, out, notes)
+    let source = Source::new(alloc, text)?;
+    live_scenario(rt, alloc, lived(alloc, &source)?, rounds, out, notes)
 }

@@ -5,8 +5,9 @@ ghost use Rattle.std.specs.List.{slice_split};
 ghost use Rattle.trace_scenario.specs.Line.{line_of_text};
 ghost use Rattle.usb_scripttext.specs.Results.{AnswersAs};
 ghost use Rattle.trace_scenario.specs.Runnable.{IsRunnable};
-ghost use Rattle.trace_main.specs.Lived.{first_unlived, is_unlived, lived_of};
+ghost use Rattle.trace_main.specs.Lived.{first_unlived, is_unlived, lived_in, lived_of};
 
+use crate::source::Source;
 use std::alloc::{AllocError, Global};
 use trace_scenario::{Line, Scenario, read_scenario};
 use usb_model::{Plan, Step};
@@ -49,7 +50,7 @@ fn first_unlived(alloc: Global, text: &[u8]) -> Result<Option<u64>, AllocError>
 
 /// The scenario of a text, or the number of its first line that isn't taken, or asks for what no handle's thread does.
 /// What it gives can be run.
-pub(crate) fn read_lived(alloc: Global, text: &[u8]) -> Result<Scenario, TextFault>
+fn read_lived(alloc: Global, text: &[u8]) -> Result<Scenario, TextFault>
     ensures scenario { AnswersAs result (lived_of text.now) }
     ensures runnable { IfOk result (λ s. IsRunnable s) }
 {
@@ -61,5 +62,18 @@ pub(crate) fn read_lived(alloc: Global, text: &[u8]) -> Result<Scenario, TextFau
         (Some(at), Ok(_)) => Err(TextFault::Line(at)),
         (Some(at), Err(TextFault::Line(line))) => Err(TextFault::Line(line.min(at))),
         (Some(_), Err(TextFault::Memory)) => Err(TextFault::Memory),
+    }
+}
+
+/// The same of what a text stands for; a bad line is told as the text has it.
+#[tactic(auto, using(crate::proofs::Sources::told_good, crate::proofs::Sources::told_bad))]
+pub(crate) fn lived(alloc: Global, source: &Source<'_>) -> Result<Scenario, TextFault>
+    ensures scenario { AnswersAs result (lived_in source.now) }
+    ensures runnable { IfOk result (λ s. IsRunnable s) }
+{
+    match read_lived(alloc, source.text()) {
+        Ok(scenario) => Ok(scenario),
+        Err(TextFault::Line(line)) => Err(TextFault::Line(source.number(line))),
+        Err(TextFault::Memory) => Err(TextFault::Memory),
     }
 }

@@ -5,14 +5,16 @@ ghost use Rattle.trace_io.specs.Input.{longest_input};
 ghost use Rattle.trace_io.specs.declared.words.Task.TheVariants.{Draw, Page};
 ghost use Rattle.trace_main.specs.Program.{Begins, IsSilentAtBad, Performs};
 
+use crate::source::Source;
 use std::alloc::Global;
 use std::io::Write;
 use trace_io::Fault;
 use trace_picture::Form;
 use trace_run::{TaskEnd, draw_run};
-use trace_scenario::{Lined, read_lined};
+use trace_scenario::Lined;
 
 /// Prints a picture of the run of a text's scenario, or a page with one.
+#[tactic(auto, using(crate::proofs::Begun::nothing_of, crate::proofs::Words::silent_same, crate::proofs::Words::silent_of, crate::proofs::Words::picture_ends, crate::proofs::Words::picture_begun))]
 pub(crate) fn drawn<W: Write>(
     alloc: Global,
     text: &[u8],
@@ -28,10 +30,12 @@ pub(crate) fn drawn<W: Write>(
     ensures begun { Begins (Draw from to) text.now (W.contents out.old) (W.contents out.new) }
     ensures begun_page { Begins (Page from to) text.now (W.contents out.old) (W.contents out.new) }
 {
+    let source = Source::new(alloc, text)?;
     let Lined {
         scenario,
         lines,
         ..
-    } = read_lined(alloc, text)?;
+    } = source.read(alloc)?;
+    let lines = source.told(alloc, lines.as_slice())?;
     draw_run(alloc, scenario, lines.as_slice(), from, to, form, out)
 }

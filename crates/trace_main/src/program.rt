@@ -12,16 +12,18 @@ ghost use Rattle.trace_io.specs.declared.fault.Fault.{Fault};
 ghost use Rattle.trace_io.specs.Input.{longest_input};
 ghost use Rattle.trace_io.specs.Output.{AppendsSome};
 ghost use Rattle.trace_main.specs.Program.{status_of, AskForOther, AskForThreads, Begins, FindsUnexpected, IsAlone, IsSilentAtBad, IsThreaded, Performs, ReadsOther, TellsRest, TellsWhy};
+ghost use Rattle.trace_main.specs.Source.{OfSource, text_in};
 ghost use Rattle.trace_io.specs.declared.words.Task.{Task};
 ghost use Rattle.trace_run.specs.declared.tasks.TaskEnd.TheVariants.{BadLines, Differs, NoDevices};
 ghost use Rattle.trace_io.specs.declared.words.Task.TheVariants.{Capture, Check, Devices};
 
 use crate::checked::report;
 use crate::descriptor::{describe, device};
-use crate::judged::{entries, left, steps};
+use crate::judged::{alone, entries, left, steps};
 use crate::live::live;
 use crate::picture::drawn;
 use crate::recorded::devices;
+use crate::source::Source;
 use crate::tested::run_test;
 use crate::told::{explain, packets};
 use clap::Error;
@@ -32,8 +34,8 @@ use std::sync::Wait;
 use std::thread::Threads;
 use trace_io::{Fault, Task, read_whole, read_words, write_bytes};
 use trace_picture::Form;
-use trace_run::{TaskEnd, capture_run, run_alone};
-use trace_scenario::{Lined, Scenario, read_lined, read_scenario};
+use trace_run::{TaskEnd, capture_run};
+use trace_scenario::Lined;
 
 /// The status of a run that ended early, of a check that found bad lines, and of a capture without devices.
 const FAILED: u8 = 1;
@@ -68,7 +70,7 @@ pub fn trace<T: Threads + Wait + Sync, R: Read, W: Write, E: Write>(
     ensures silent { IfSome (R.remaining input.old) (λ text.
         IsSilentAtBad text (W.contents out.old) (W.contents out.new) ⊎ AskForHelp (words_of words.now)
         ⊎ AskForOther (words_of words.now)) }
-    ensures bad { AskFor (words_of words.now) Check → IfSome (R.remaining input.old) (λ text. bad_lines text ≢ [] → result ≢ 0) }
+    ensures bad { AskFor (words_of words.now) Check → IfSome (R.remaining input.old) (λ text. result ≡ 0 → OfSource text (λ src. bad_lines (text_in src) ≡ [])) }
     ensures unfinished { (task : Task) → AskFor (words_of words.now) task
         → IfSome (R.remaining input.old) (λ text. Begins task text (W.contents out.old) (W.contents out.new)) }
     ensures told { result ≡ 1 → TellsWhy (words_of words.now) (R.remaining input.old)
@@ -165,11 +167,7 @@ fn perform<T: Threads + Wait + Sync, R: Read, W: Write>(
         Task::Run => entries(alloc, text.as_slice(), out),
         Task::Steps => steps(alloc, text.as_slice(), out),
         Task::Packets { steps } => packets(alloc, steps, text.as_slice(), out),
-        Task::Alone(h) => {
-            let Scenario { setup, .. } = read_scenario(alloc, text.as_slice())?;
-            let scenario = read_scenario(alloc, text.as_slice())?;
-            run_alone(alloc, scenario, setup, h, out)
-        }
+        Task::Alone(h) => alone(alloc, text.as_slice(), h, out),
         Task::Live(rounds) => live(rt, alloc, text.as_slice(), rounds, out, notes),
         Task::Left => left(alloc, text.as_slice(), out),
         Task::Check => report(alloc, text.as_slice(), out),
@@ -185,17 +183,19 @@ fn perform<T: Threads + Wait + Sync, R: Read, W: Write>(
 }
 
 /// Writes the run of a text's scenario as a capture.
+#[tactic(auto, using(crate::proofs::Begun::nothing_of, crate::proofs::Words::silent_same, crate::proofs::Words::silent_of, crate::proofs::JudgedRuns::begins_said))]
 fn capture<W: Write>(alloc: Global, text: &[u8], out: &mut W) -> Result<TaskEnd, Fault>
     requires { length text.now ≤ longest_input }
     ensures ends { Performs Capture text.now [] (W.contents out.old) (W.contents out.new) result }
     ensures silent { IsSilentAtBad text.now (W.contents out.old) (W.contents out.new) }
     ensures begun { Begins Capture text.now (W.contents out.old) (W.contents out.new) }
 {
+    let source = Source::new(alloc, text)?;
     let Lined {
         scenario,
         lines,
         devices,
-    } = read_lined(alloc, text)?;
+    } = source.read(alloc)?;
     capture_run(alloc, scenario, devices.as_slice(), lines.as_slice(), out)
 }
 

@@ -7,16 +7,17 @@ ghost use Rattle.trace_io.specs.Faults.{IsOfRun};
 ghost use Rattle.trace_io.specs.Input.{longest_input};
 ghost use Rattle.trace_io.specs.Output.{AppendsSome};
 ghost use Rattle.trace_io.specs.declared.words.Task.TheVariants.{Explain, Packets};
-ghost use Rattle.trace_scenario.specs.Scenario.{scenario_of};
 ghost use Rattle.trace_scenario.specs.declared.scenario.Scenario.{Scenario};
 ghost use Rattle.trace_main.specs.Program.{Begins, IsSilentAtBad, IsUntold, Performs, packets_told, told_text};
+ghost use Rattle.trace_main.specs.Source.{scenario_in};
 
+use crate::source::Source;
 use std::alloc::Global;
 use std::io::Write;
 use trace_explain::{Telling, explained_run};
 use trace_io::{Fault, write_bytes};
 use trace_run::TaskEnd;
-use trace_scenario::{Lined, Scenario, read_lined};
+use trace_scenario::{Lined, Scenario};
 use usb_device::into_setups;
 
 /// Writes a text, and all that is to be written with it.
@@ -30,16 +31,17 @@ pub(crate) fn write_all<W: Write>(out: &mut W, text: &[u8]) -> Result<(), Fault>
     Ok(())
 }
 
-/// What is told of the run of a text's scenario.
-fn told_run(alloc: Global, telling: Telling, text: &[u8]) -> Result<Vec<u8>, Fault>
-    ensures told { IfOk result (λ told. (s : Scenario) × (scenario_of text.now ≡ Ok s) × (told.items ≡ told_text telling text.now s)) }
-    ensures fault { IfErr result (IsUntold text.now) }
+/// What is told of a scenario's run.
+fn told_run(alloc: Global, telling: Telling, source: &Source<'_>) -> Result<Vec<u8>, Fault>
+    ensures told { IfOk result (λ told. (s : Scenario) × (scenario_in source.now ≡ Ok s) × (told.items ≡ told_text telling source.now s)) }
+    ensures fault { IfErr result (IsUntold source.now) }
 {
     let Lined {
         scenario,
         lines,
         ..
-    } = read_lined(alloc, text)?;
+    } = source.read(alloc)?;
+    let lines = source.told(alloc, lines.as_slice())?;
     let Scenario { setup, plan, rules } = scenario;
     let setup = into_setups(alloc, setup)?;
     let (plan, rules) = (plan.as_slice(), rules.as_slice());
@@ -58,18 +60,21 @@ fn packets_told(steps: bool) -> Telling
 }
 
 /// Prints the entries of a text's scenario, each behind its line, with their reasons.
+#[tactic(auto, using(crate::proofs::Begun::nothing_of, crate::proofs::JudgedRuns::of_run, crate::proofs::Words::silent_same, crate::proofs::Words::silent_told, crate::proofs::Words::explain_untold, crate::proofs::Words::explain_done, crate::proofs::Words::explain_begun))]
 pub(crate) fn explain<W: Write>(alloc: Global, text: &[u8], out: &mut W) -> Result<TaskEnd, Fault>
     requires { length text.now ≤ longest_input }
     ensures ends { Performs Explain text.now [] (W.contents out.old) (W.contents out.new) result }
     ensures silent { IsSilentAtBad text.now (W.contents out.old) (W.contents out.new) }
     ensures begun { Begins Explain text.now (W.contents out.old) (W.contents out.new) }
 {
-    let told = told_run(alloc, Telling::Reasons, text)?;
+    let source = Source::new(alloc, text)?;
+    let told = told_run(alloc, Telling::Reasons, &source)?;
     write_all(out, told.as_slice())?;
     Ok(TaskEnd::Good)
 }
 
 /// Prints the entries of a text's scenario with the packets that moved, each behind its line where the lines are asked for.
+#[tactic(auto, using(crate::proofs::Begun::nothing_of, crate::proofs::JudgedRuns::of_run, crate::proofs::Words::silent_same, crate::proofs::Words::silent_told, crate::proofs::Words::packets_untold, crate::proofs::Words::packets_done, crate::proofs::Words::packets_begun))]
 pub(crate) fn packets<W: Write>(
     alloc: Global,
     steps: bool,
@@ -81,7 +86,8 @@ pub(crate) fn packets<W: Write>(
     ensures silent { IsSilentAtBad text.now (W.contents out.old) (W.contents out.new) }
     ensures begun { Begins (Packets steps) text.now (W.contents out.old) (W.contents out.new) }
 {
-    let told = told_run(alloc, packets_told(steps), text)?;
+    let source = Source::new(alloc, text)?;
+    let told = told_run(alloc, packets_told(steps), &source)?;
     write_all(out, told.as_slice())?;
     Ok(TaskEnd::Good)
 }

@@ -11,7 +11,7 @@ use Rattle.usb_model.specs.Setup.{is_in}
 use Rattle.trace_capture.specs.declared.control_setup.ControlSetup.{ControlSetup}
 use Rattle.trace_capture.specs.declared.errno.Errno.{Errno}
 use Rattle.trace_capture.specs.declared.errno.Errno.TheVariants.{Success, NoEntry, Pipe, Protocol, Overflow, Shutdown, InProgress, RemoteIo}
-use Rattle.trace_capture.specs.declared.event.Event.{Event}
+use Rattle.trace_capture.specs.declared.event.CaptureEvent.{CaptureEvent}
 use Rattle.trace_capture.specs.declared.event.UrbFlags.{UrbFlags}
 use Rattle.trace_capture.specs.declared.event.EventType.{EventType}
 use Rattle.trace_capture.specs.declared.event.EventType.TheVariants as written
@@ -76,11 +76,11 @@ same_event a b frame id type kind ep device bus status long counted setup flags 
     ∙ ap (λ v. record b { bytes = v }) bytes)))))))))))
 
 -- the packet of an event with this setup
-abbrev packet : Event → List ℕ
+abbrev packet : CaptureEvent → List ℕ
 packet e = drop 16 (event_bytes e)
 
 -- the parts of a packet: each of its fields
-record IsPacket (e : Event) (bytes : List ℕ) : Type 0 where
+record IsPacket (e : CaptureEvent) (bytes : List ℕ) : Type 0 where
   pub size : 64 ≤ length bytes
   pub id : little_number 8 (drop 0 bytes) ≡ id_number e.id
   pub letter : slice_index bytes 8 ≡ type_letter e.event_type % 256
@@ -106,7 +106,7 @@ fields s bytes type request value index long =
     ∙ ap (λ v. record s { length = v }) long)))
 
 -- without setup data
-no_setup : (e : Event) → HasRoom (record e { setup = None }) → IsPacket (record e { setup = None }) (packet (record e { setup = None }))
+no_setup : (e : CaptureEvent) → HasRoom (record e { setup = None }) → IsPacket (record e { setup = None }) (packet (record e { setup = None }))
 unfolding event_bytes record_header who how what rest
 no_setup e room = record {
   size = omega arith;
@@ -131,7 +131,7 @@ no_setup e room = record {
     none Bulk = refl
 
 -- with them
-with_setup : (e : Event) (s : ControlSetup) → HasRoom (record e { setup = Some s }) → IsPacket (record e { setup = Some s }) (packet (record e { setup = Some s }))
+with_setup : (e : CaptureEvent) (s : ControlSetup) → HasRoom (record e { setup = Some s }) → IsPacket (record e { setup = Some s }) (packet (record e { setup = Some s }))
 unfolding event_bytes record_header who how what rest
 with_setup e s room = record {
   size = omega arith;
@@ -159,12 +159,12 @@ with_setup e s room = record {
     long = little_number-reads_back 2 s.length (drop 48 (packet (record e { setup = Some s }))) room.setup.5
 
 -- with either
-is_packet : (e : Event) (s : Option ControlSetup) → HasRoom (record e { setup = s }) → IsPacket (record e { setup = s }) (packet (record e { setup = s }))
+is_packet : (e : CaptureEvent) (s : Option ControlSetup) → HasRoom (record e { setup = s }) → IsPacket (record e { setup = s }) (packet (record e { setup = s }))
 is_packet e None room = no_setup e room
 is_packet e (Some s) room = with_setup e s room
 
 -- an event is read from its parts
-reads : (frame : ℕ) (e : Event) (bytes : List ℕ) → IsPacket e bytes → event_of Little Mapped frame bytes ≡ Some (fields_of frame e)
+reads : (frame : ℕ) (e : CaptureEvent) (bytes : List ℕ) → IsPacket e bytes → event_of Little Mapped frame bytes ≡ Some (fields_of frame e)
 unfolding event_of linux_event
 reads frame e bytes p =
     let long : nat_lt (length bytes) 64 ≡ false = le-ltb (length bytes) 64 p.size in

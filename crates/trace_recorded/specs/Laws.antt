@@ -15,7 +15,7 @@ use Rattle.usb_model.specs.Endpoint.Status.{told_status}
 use Rattle.trace_capture.specs.declared.errno.Errno.{Errno}
 use Rattle.trace_capture.specs.declared.errno.Errno.TheVariants.{Success, Pipe, Protocol, Overflow, RemoteIo}
 use Rattle.trace_capture.specs.declared.control_setup.ControlSetup.{ControlSetup}
-use Rattle.trace_capture.specs.declared.event.Event.{Event}
+use Rattle.trace_capture.specs.declared.event.CaptureEvent.{CaptureEvent}
 use Rattle.trace_capture.specs.declared.event.EventType.{EventType}
 use Rattle.trace_capture.specs.declared.event.EventType.TheVariants as written
 use Rattle.trace_capture.specs.Event.{errno_number, event_bytes, file_bytes, flags_number, id_number}
@@ -44,7 +44,7 @@ SetupFits kind None = Unit {0}
 SetupFits kind (Some s) = (kind ≡ Control) × (s.request_type < 2 ^ 8) × (s.request < 2 ^ 8) × (s.value < 2 ^ 16) × (s.index < 2 ^ 16) × (s.length < 2 ^ 16)
 
 -- an event whose numbers have room in its record
-pub record HasRoom (e : Event) : Type 0 where
+pub record HasRoom (e : CaptureEvent) : Type 0 where
   pub id : id_number e.id < 2 ^ 64
   pub ep : e.ep < 2 ^ 8
   pub device : e.device + 1 < 2 ^ 8
@@ -58,7 +58,7 @@ type_written written.Submission = Submission
 type_written written.Callback = Callback
 
 -- what is recorded of an event
-abbrev pub fields_of : ℕ → Event → RecordedEvent
+abbrev pub fields_of : ℕ → CaptureEvent → RecordedEvent
 fields_of frame e = record {
   frame = frame;
   id = id_number e.id;
@@ -77,21 +77,21 @@ fields_of frame e = record {
 
 -- what is written of an event is read back: the packet is the record behind its first 16 bytes
 abbrev pub EventsAreReadBack : Type 0
-EventsAreReadBack = (frame : ℕ) (e : Event) → HasRoom e → event_of Little Mapped frame (drop 16 (event_bytes e)) ≡ Some (fields_of frame e)
+EventsAreReadBack = (frame : ℕ) (e : CaptureEvent) → HasRoom e → event_of Little Mapped frame (drop 16 (event_bytes e)) ≡ Some (fields_of frame e)
 
 -- an event whose record has room for its data too
-pub record HasRecord (e : Event) : Type 0 where
+pub record HasRecord (e : CaptureEvent) : Type 0 where
   pub room : HasRoom e
   pub size : 64 + length e.bytes < 2 ^ 32
 
 -- what is recorded of events, of which the first has this number
-abbrev pub numbered : ℕ → List Event → List RecordedEvent
+abbrev pub numbered : ℕ → List CaptureEvent → List RecordedEvent
 numbered frame [] = []
 numbered frame (e ∷ events) = fields_of frame e ∷ numbered (next_frame frame) events
 
 -- a file of events is read whole, and gives what is recorded of each, with its number
 abbrev pub FilesAreReadBack : Type 0
-FilesAreReadBack = (events : List Event) → AllByRecursion HasRecord events → recording (file_bytes events) ≡ Ok (record { events = numbered 1 events; is_cut = false })
+FilesAreReadBack = (events : List CaptureEvent) → AllByRecursion HasRecord events → recording (file_bytes events) ≡ Ok (record { events = numbered 1 events; is_cut = false })
 
 -- before a fault whole packets moved: none, or fewer bytes than were asked for
 pub record MovedWhole (size asked moved : ℕ) : Type 0 where

@@ -25,7 +25,7 @@ use Rattle.proof_laws.proofs.Plans.{AreFixed, IsFixedStage, fixed_after, fixed_o
 use Rattle.usb_plans.proofs.OnlySteps.{stands_only}
 use Rattle.usb_plans.proofs.Reached.{piece_rules}
 use Rattle.usb_plans.proofs.TakenCallbacks.{Takes, has_one, takes}
-use Rattle.trace_capture.specs.declared.event.Event.{Event}
+use Rattle.trace_capture.specs.declared.event.CaptureEvent.{CaptureEvent}
 use Rattle.trace_capture.specs.Control.{device_events}
 use Rattle.trace_capture.specs.Event.{event_bytes, events_bytes, file_bytes, file_header}
 use Rattle.trace_capture.specs.Events.{DeviceLine, Recording, device_after, devices_after, entries_events, entry_after, entry_events, nothing_recorded}
@@ -40,7 +40,7 @@ use Rattle.trace_run.specs.declared.lines.Reach.{Reach}
 use Rattle.trace_run.specs.declared.lines.Reach.TheVariants.{End, NoMemory}
 
 -- the file of some events, and the records of more
-pub file_more : (front more : List Event) → file_bytes (front ++ more) ≡ file_bytes front ++ events_bytes more
+pub file_more : (front more : List CaptureEvent) → file_bytes (front ++ more) ≡ file_bytes front ++ events_bytes more
 file_more front more = ap (λ l. file_header ++ l) (flat_map-append event_bytes front more) ∙ sym (append_assoc file_header (events_bytes front) (events_bytes more))
 
 -- what is kept behind one line more of a device
@@ -99,8 +99,8 @@ unfolding journal_from entries_events told_events told_after
 told_places setup w s line told [] more all = refl
 told_places setup w s line told (step ∷ steps) more all =
     let entry : Entry = (turn setup w step).entry in
-    let further : List Event = told_events (entry_after s told entry) line told (run_from setup (turn setup w step).world steps) in
-    let behind : List Event = entries_events (told_after (entry_after s told entry) told (run_from setup (turn setup w step).world steps)) more in
+    let further : List CaptureEvent = told_events (entry_after s told entry) line told (run_from setup (turn setup w step).world steps) in
+    let behind : List CaptureEvent = entries_events (told_after (entry_after s told entry) told (run_from setup (turn setup w step).world steps)) more in
     ap (λ r. entry_events s line step entry ++ entries_events r (placed line (journal_from setup (turn setup w step).world steps) ++ more)) (all.0.after s entry)
     ∙ (ap (λ l. l ++ entries_events (entry_after s told entry) (placed line (journal_from setup (turn setup w step).world steps) ++ more)) (all.0.events s line entry)
     ∙ (ap (λ l. entry_events s line told entry ++ l) (told_places setup (turn setup w step).world (entry_after s told entry) line told steps more all.1)
@@ -172,12 +172,12 @@ module _ (devices : List DescribedDevice) (setup : Setup) (plan : List Plan) (ru
   pub front_begun_for : (gathered : List ℕ) (old new : Option (List ℕ)) → gathered ≡ [] → AppendsSome (gathered ++ file_bytes (devices_events (map device_line devices))) old new
       → AppendsSome (file_bytes (plan_events devices setup plan rules lines)) old new
   front_begun_for gathered old new empty some =
-      let front : List Event = devices_events (map device_line devices) in
-      let rest : List Event = entries_events (devices_after nothing_recorded (map device_line devices)) (places_from setup (first_stage setup rules) plan lines) in
+      let front : List CaptureEvent = devices_events (map device_line devices) in
+      let rest : List CaptureEvent = entries_events (devices_after nothing_recorded (map device_line devices)) (places_from setup (first_stage setup rules) plan lines) in
       some_of_front (file_bytes (front ++ rest)) (file_bytes front) (events_bytes rest) old new (file_more front rest) (subst (λ g. AppendsSome (g ++ file_bytes front) old new) empty some)
 
 -- total: the events of the whole run; old: what stood on the output before
-module _ {P : Type 0} (rule : P → Rule) (setup : Setup) (total : List Event) (old : Option (List ℕ)) where
+module _ {P : Type 0} (rule : P → Rule) (setup : Setup) (total : List CaptureEvent) (old : Option (List ℕ)) where
   -- some pieces were performed: their events and those of the pieces to come are all; of their file all but these bytes are written
   -- ahead: the pieces to come; left: the callbacks of their submissions; behind: their lines
   pub record IsCaptured (v : PlanState P) (rec : Recording) (ahead : List Plan) (left : List P) (behind : List (ℕ × List ℕ)) (bytes : List ℕ) (new : Option (List ℕ)) : Type 0 where
@@ -187,12 +187,12 @@ module _ {P : Type 0} (rule : P → Rule) (setup : Setup) (total : List Event) (
     pub under : stage.rules ≡ map rule left
     pub enough : length left ≡ count_by is_submission ahead
     pub no_verdict : AllByRecursion (λ piece. is_verdict piece ≡ false) ahead
-    pub done : List Event
+    pub done : List CaptureEvent
     pub is_whole : done ++ entries_events rec (places_from setup stage ahead behind) ≡ total
     pub appended : AppendsAllBut (file_bytes done) bytes old new
 
   -- none was: the devices' lines stand in front
-  pub front_put : (v : PlanState P) (rec : Recording) (rules : List Rule) (plan ahead : List Plan) (left : List P) (behind : List (ℕ × List ℕ)) (front : List Event) (gathered bytes : List ℕ) (new : Option (List ℕ)) → ahead ≡ plan → ((rs : List Rule) → ShowsStage rule setup v (first_stage setup rs))
+  pub front_put : (v : PlanState P) (rec : Recording) (rules : List Rule) (plan ahead : List Plan) (left : List P) (behind : List (ℕ × List ℕ)) (front : List CaptureEvent) (gathered bytes : List ℕ) (new : Option (List ℕ)) → ahead ≡ plan → ((rs : List Rule) → ShowsStage rule setup v (first_stage setup rs))
       → rules ≡ map rule left → length left ≡ count_by is_submission plan → AllByRecursion (λ piece. is_verdict piece ≡ false) plan → AreFixed rules
       → front ++ entries_events rec (places_from setup (first_stage setup rules) plan behind) ≡ total
       → gathered ≡ [] → AppendsAllBut (gathered ++ file_bytes front) bytes old new → IsCaptured v rec ahead left behind bytes new
@@ -251,7 +251,7 @@ module _ {P : Type 0} (rule : P → Rule) (setup : Setup) (total : List Event) (
       }
 
   -- what was told, and one more
-  all_with : (done events rest before : List Event) → done ++ before ≡ total → before ≡ events ++ rest → (done ++ events) ++ rest ≡ total
+  all_with : (done events rest before : List CaptureEvent) → done ++ before ≡ total → before ≡ events ++ rest → (done ++ events) ++ rest ≡ total
   all_with done events rest before all is = append_assoc done events rest ∙ (ap (λ l. done ++ l) (sym is) ∙ all)
 
   -- its records are put
@@ -259,7 +259,7 @@ module _ {P : Type 0} (rule : P → Rule) (setup : Setup) (total : List Event) (
       → IsCaptured v rec ahead left behind bytes mid → behind ≡ line ∷ after → TakesNext (is_submission piece) left more callback → CapturesPiece rule End line.0 rec after_rec v piece callback w bytes gathered mid new → IsCaptured w after_rec beyond more after gathered new
   piece_put v w rec after_rec ahead beyond left more behind after bytes gathered mid new piece callback line comes p first next q =
       let n = is_next v w rec ahead beyond left more behind after bytes mid piece callback line q.made comes p first next q.makes.0 in
-      let told : List Event = told_events rec line.0 (told_step piece) q.made in
+      let told : List CaptureEvent = told_events rec line.0 (told_step piece) q.made in
       subst (λ r. IsCaptured w r beyond more after gathered new) (sym q.makes.1) (record {
         stage = stage_after setup p.stage piece n.here;
         shows = n.shows;
@@ -273,7 +273,7 @@ module _ {P : Type 0} (rule : P → Rule) (setup : Setup) (total : List Event) (
       })
 
   -- the file of what was told is a beginning of the whole
-  front_of_whole : (done rest : List Event) → done ++ rest ≡ total → file_bytes total ≡ file_bytes done ++ events_bytes rest
+  front_of_whole : (done rest : List CaptureEvent) → done ++ rest ≡ total → file_bytes total ≡ file_bytes done ++ events_bytes rest
   front_of_whole done rest all = ap (λ l. file_bytes l) (sym all) ∙ file_more done rest
 
   -- a beginning of them is written
@@ -281,8 +281,8 @@ module _ {P : Type 0} (rule : P → Rule) (setup : Setup) (total : List Event) (
       → IsCaptured v rec ahead left behind bytes mid → behind ≡ line ∷ after → TakesNext (is_submission piece) left more callback → BeginsCapturedPiece rule line.0 rec v piece callback w bytes mid new → AppendsSome (file_bytes total) old new
   piece_begun v w rec ahead beyond left more behind after bytes mid new piece callback line comes p first next q =
       let n = is_next v w rec ahead beyond left more behind after bytes mid piece callback line q.made comes p first next q.makes in
-      let told : List Event = told_events rec line.0 (told_step piece) q.made in
-      let rest : List Event = entries_events (told_after rec (told_step piece) q.made) (places_from setup (stage_after setup p.stage piece n.here) beyond after) in
+      let told : List CaptureEvent = told_events rec line.0 (told_step piece) q.made in
+      let rest : List CaptureEvent = entries_events (told_after rec (told_step piece) q.made) (places_from setup (stage_after setup p.stage piece n.here) beyond after) in
       some_of_front (file_bytes total) (file_bytes (p.done ++ told)) (events_bytes rest) old new
       (front_of_whole (p.done ++ told) rest (all_with p.done told rest (entries_events rec (places_from setup p.stage ahead behind)) p.is_whole n.events))
       (subst (λ l. AppendsSome l old new) (sym (file_more p.done told)) (some_further (file_bytes p.done) bytes (events_bytes told) old mid new p.appended q.some))

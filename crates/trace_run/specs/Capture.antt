@@ -12,7 +12,7 @@ use Rattle.usb_model.specs.declared.verdict.Verdict.TheVariants.{Stop}
 use Rattle.usb_model.specs.Setup.{Setup}
 use Rattle.usb_model.specs.World.Journal.{IsBeginning, Place, journal_from}
 use Rattle.usb_model.specs.World.Plans.{Stage, first_stage, stage_after, steps_of}
-use Rattle.trace_capture.specs.declared.event.Event.{Event}
+use Rattle.trace_capture.specs.declared.event.CaptureEvent.{CaptureEvent}
 use Rattle.trace_capture.specs.Control.{device_events}
 use Rattle.trace_capture.specs.Event.{events_bytes, file_bytes}
 use Rattle.trace_capture.specs.Events.{DeviceLine, Recording, entry_after, entry_events, run_events}
@@ -28,7 +28,7 @@ abbrev pub device_line : DescribedDevice → DeviceLine
 device_line d = record { line = d.line; device = d.device; descriptor = d.descriptor }
 
 -- the events of devices' lines
-abbrev pub devices_events : List DeviceLine → List Event
+abbrev pub devices_events : List DeviceLine → List CaptureEvent
 devices_events devices = flat_map (λ d. device_events d.line d.device d.descriptor) devices
 
 -- places of a journal that came from the line of this number
@@ -43,13 +43,13 @@ places_from setup s (piece ∷ plan) (line ∷ lines) =
     placed line.0 (journal_from setup s.world (steps_of setup s piece)) ++ places_from setup (stage_after setup s piece (steps_of setup s piece)) plan lines
 
 -- the events of a plan's run under these rules, its devices' lines in front
-abbrev pub plan_events : List DescribedDevice → Setup → List Plan → List Rule → List (ℕ × List ℕ) → List Event
+abbrev pub plan_events : List DescribedDevice → Setup → List Plan → List Rule → List (ℕ × List ℕ) → List CaptureEvent
 plan_events devices setup plan rules lines = run_events (map device_line devices) (places_from setup (first_stage setup rules) plan lines)
 
 -- what is written of a capture of these events: the whole file; or, where the run came to a step that found no memory, that of a beginning of them, so that it ends with a whole record
-abbrev pub PrintsFile : Reach → List Event → Option (List ℕ) → Option (List ℕ) → Type 0
+abbrev pub PrintsFile : Reach → List CaptureEvent → Option (List ℕ) → Option (List ℕ) → Type 0
 PrintsFile End events old new = Appends old new (file_bytes events)
-PrintsFile NoMemory events old new = (front : List Event) × IsBeginning front events × Appends old new (file_bytes front)
+PrintsFile NoMemory events old new = (front : List CaptureEvent) × IsBeginning front events × Appends old new (file_bytes front)
 
 -- by which step the entries of a piece are told: by its own; those of a return by the verdict Stop, since of a callback's return the same is told by either verdict that a rule gives
 abbrev pub told_step : Plan → Step
@@ -57,7 +57,7 @@ told_step (Do step) = step
 told_step (Return h n) = Answer h n Stop
 
 -- the events of entries that are told by one step, from one line
-unfoldable pub told_events : Recording → ℕ → Step → List Entry → List Event
+unfoldable pub told_events : Recording → ℕ → Step → List Entry → List CaptureEvent
 told_events s line step [] = []
 told_events s line step (entry ∷ entries) = entry_events s line step entry ++ told_events (entry_after s step entry) line step entries
 

@@ -20,7 +20,7 @@ use crate::lines::{Parts, Reach, write_rest};
 use std::alloc::{AllocError, Global};
 use std::io::Write;
 use std::vec::IntoIter;
-use trace_capture::{Recorder, append_all, file_header};
+use trace_capture::{CaptureRecorder, append_all, file_header};
 use trace_io::{Fault, Lines};
 use trace_scenario::{DescribedDevice, NumberedLine};
 use usb_core::Callback;
@@ -30,7 +30,7 @@ use usb_plans::{Performed, PlanRun, next_callback};
 
 /// Puts the records of a device's line behind the bytes.
 fn add_device(
-    recorder: &mut Recorder,
+    recorder: &mut CaptureRecorder,
     bytes: &mut Vec<u8>,
     described: &DescribedDevice,
 ) -> Result<(), AllocError>
@@ -49,7 +49,7 @@ fn add_device(
 /// The file header, and the records of the devices' lines.
 fn front_of(
     alloc: Global,
-    recorder: &mut Recorder,
+    recorder: &mut CaptureRecorder,
     devices: &[DescribedDevice],
 ) -> Result<Vec<u8>, AllocError>
     ensures bytes { IfOk result (λ bytes. bytes.items ≡ file_bytes (devices_events (map device_line devices.now))) }
@@ -66,7 +66,7 @@ fn front_of(
 /// written.
 fn put_front<W: Write>(
     alloc: Global,
-    recorder: &mut Recorder,
+    recorder: &mut CaptureRecorder,
     devices: &[DescribedDevice],
     lines: &mut Lines,
     out: &mut W,
@@ -82,7 +82,7 @@ fn put_front<W: Write>(
 
 /// Puts the records of an entry behind the bytes.
 fn add_entry(
-    recorder: &mut Recorder,
+    recorder: &mut CaptureRecorder,
     bytes: &mut Vec<u8>,
     line: u64,
     step: &Step,
@@ -99,7 +99,7 @@ fn add_entry(
 #[tactic(auto, unfolding(crate::specs::Capture::told_events, crate::specs::Capture::told_after))]
 fn records_of<C>(
     alloc: Global,
-    recorder: &mut Recorder,
+    recorder: &mut CaptureRecorder,
     line: u64,
     step: &Step,
     performed: &Performed<C>,
@@ -118,7 +118,7 @@ fn records_of<C>(
 /// Puts the records of what came of a piece behind the others. Nothing is put where memory is refused.
 fn put_records<C, W: Write>(
     alloc: Global,
-    recorder: &mut Recorder,
+    recorder: &mut CaptureRecorder,
     line: u64,
     step: &Step,
     performed: &Performed<C>,
@@ -157,7 +157,7 @@ fn capture_piece<C: Callback, D: Device, W: Write>(
     run: &mut PlanRun<C, D>,
     piece: Plan,
     callback: Option<C>,
-    recorder: &mut Recorder,
+    recorder: &mut CaptureRecorder,
     line: u64,
     lines: &mut Lines,
     out: &mut W,
@@ -195,7 +195,7 @@ fn capture_steps<C: Callback, D: Device, W: Write>(
     ensures begun { BeginsCapture C.rule devices.now plan (map numbered step_lines.now) run.old (into_iter_items left.old) (W.contents out.old) (W.contents out.new) }
     ensures fault { IfErr result (λ fault. IsOfRun fault) }
 {
-    let mut recorder = Recorder::new(alloc);
+    let mut recorder = CaptureRecorder::new(alloc);
     let mut lines = Lines::new(alloc);
     put_front(alloc, &mut recorder, devices, &mut lines, out)?;
     for (piece, line) in plan.into_vec().into_iter().zip(step_lines) {

@@ -78,5 +78,6 @@ pub use line::Line;
 pub use lined::{Lined, NumberedLine, read_lined};
 pub use option::Options;
 pub use scenario::{Scenario, read_scenario};
+pub use shown::ShownWord;
 pub use slip::Slip;
 pub use verb::Verb;

@@ -7,7 +7,7 @@ const MOST_SHOWN: usize = 24;
 
 /// A word as it stands, cut to 24 characters with `..` behind where it is longer, and with `?` for each byte that isn't printable ASCII.
 #[derive(Clone, Copy)]
-pub(crate) struct ShownWord<'a>(pub &'a str);
+pub struct ShownWord<'a>(pub &'a str);
 
 impl fmt::Display for ShownWord<'_> {
     fn fmt<W: fmt::Write>(&self, f: &mut fmt::Formatter<W>) -> fmt::Result {

@@ -1,4 +1,8 @@
 mod Calls
 mod Lines
+mod MacroTable
+mod Searches
+mod SettlingSteps
+mod Stands
 mod Texts
 mod Judged

@@ -1,12 +1,12 @@
 -- What a test's lines expect, compared with what the run printed and left.
-use Rattle.std.specs.Prelude.{ℕ, ◌+◌, ◌==◌, ◌++◌, nat_eq, Bool, is_some, length, drop, map, List, [], ◌∷◌, Option, Some, None, Result, Ok, Err, codes, if◌then◌else◌}
+use Rattle.std.specs.Prelude.{ℕ, ◌+◌, ◌||◌, ◌++◌, nat_eq, Bool, false, not, is_some, length, drop, map, List, [], ◌∷◌, Option, Some, None, Result, Ok, Err, codes, if◌then◌else◌}
 use Rattle.std.specs.Fmt.{decimal}
 use Rattle.std.specs.List.{prefix_len, starts_with}
 use Rattle.std.specs.Option.{unwrap_or}
-use Rattle.std.specs.Str.{bytes_eq}
 use denote.Ref.{Bor}
 use Rattle.usb_scripttext.specs.Prefix.{behind}
-use Rattle.trace_test.specs.Expected.{expected_left_of, expected_of}
+use Rattle.trace_test.specs.Expanded.{may_be_nothing}
+use Rattle.trace_test.specs.Expected.{expected_any_of, expected_left_of, expected_of, fits}
 use Rattle.trace_test.specs.declared.difference.Difference.{Difference}
 
 -- some texts
@@ -32,17 +32,20 @@ abbrev pub first_text : List (List ℕ) → List ℕ
 first_text [] = []
 first_text (text ∷ texts) = text
 
--- the next entry of the line that is compared; no text where there is none
+-- the next entry of the line that is compared, if there is one; no text where there is none
+abbrev pub next_of : Uncompared → Option (List ℕ)
+next_of u = behind (front_of u.of) (first_text u.printed)
+
 abbrev pub got_of : Uncompared → List ℕ
-got_of u = unwrap_or (behind (front_of u.of) (first_text u.printed)) []
+got_of u = unwrap_or (next_of u) []
 
 -- what is printed behind the entries of a line
 abbrev pub past : ℕ → List (List ℕ) → List (List ℕ)
 past at printed = drop (prefix_len (is_of at) printed) printed
 
--- where a line has entries, these are compared next
-abbrev pub at_line : ℕ → Uncompared → Uncompared
-at_line at u = if is_of at (first_text (past u.of u.printed)) then record u { of = at; printed = past u.of u.printed } else u
+-- where a line has entries, these are compared next; so where it may stand for no line, whether or not it has entries
+abbrev pub at_line : ℕ → List ℕ → Uncompared → Uncompared
+at_line at line u = if may_be_nothing line || is_of at (first_text (past u.of u.printed)) then record u { of = at; printed = past u.of u.printed } else u
 
 -- what is shown of a text that was got
 abbrev pub shown : List ℕ → List ℕ
@@ -59,22 +62,48 @@ abbrev pub differs : ℕ → (wanted got : List ℕ) → Difference
 differs at wanted got = record { line = at; wanted = wanted; got = shown got }
 
 abbrev pub compared : ℕ → (wanted got : List ℕ) → Uncompared → Result Uncompared Difference
-compared at wanted got u = if bytes_eq wanted (shown got) then Ok u else Err (differs at wanted got)
+compared at wanted got u = if fits wanted (shown got) then Ok u else Err (differs at wanted got)
 
--- a line that expects an entry, one that expects that something is left, or another
+-- a line that expects the next entry
 abbrev pub compare_entry : ℕ → List ℕ → Uncompared → Result Uncompared Difference
 compare_entry at wanted u = compared at wanted (got_of u) (record u { printed = drop (taken (got_of u)) u.printed })
 
+-- whether what stands behind the front of a line's entries is another entry than is wanted
+abbrev pub is_other_by : List ℕ → Option (List ℕ) → Bool
+is_other_by wanted None = false
+is_other_by wanted (Some entry) = not (fits wanted entry)
+
+-- whether a printed line has an entry of that line, and another than is wanted
+abbrev pub is_other : List ℕ → List ℕ → List ℕ → Bool
+is_other front wanted text = is_other_by wanted (behind front text)
+
+-- from the first entry of the line on that is wanted; from behind its entries where none is
+abbrev pub past_others : List ℕ → Uncompared → Uncompared
+past_others wanted u = record u { printed = drop (prefix_len (is_other (front_of u.of) wanted) u.printed) u.printed }
+
+-- what is wanted, as the line says it
+abbrev pub any_of : List ℕ → List ℕ
+any_of wanted = codes "any " ++ wanted
+
+-- a line that expects some entry from the next on: comparison goes on behind it
+abbrev pub compare_any : ℕ → List ℕ → Uncompared → Result Uncompared Difference
+compare_any at wanted u =
+    if is_some (next_of (past_others wanted u)) then Ok (record u { printed = drop 1 (past_others wanted u).printed })
+    else Err (differs at (any_of wanted) (got_of u))
+
+-- a line that expects that something is left
 abbrev pub compare_left : ℕ → List ℕ → Uncompared → Result Uncompared Difference
 compare_left at wanted u = compared at wanted (first_text u.left) (record u { left = drop (taken (first_text u.left)) u.left })
 
-abbrev pub compare_by : ℕ → (left entry : Option (List ℕ)) → Uncompared → Result Uncompared Difference
-compare_by at (Some wanted) entry u = compare_left at wanted u
-compare_by at None (Some wanted) u = compare_entry at wanted u
-compare_by at None None u = Ok (at_line at u)
+-- a line that expects that something is left, that some entry is something, or that the next is; or another
+abbrev pub compare_by : (left any entry : Option (List ℕ)) → ℕ → List ℕ → Uncompared → Result Uncompared Difference
+compare_by (Some wanted) any entry at line u = compare_left at wanted u
+compare_by None (Some wanted) entry at line u = compare_any at wanted u
+compare_by None None (Some wanted) at line u = compare_entry at wanted u
+compare_by None None None at line u = Ok (at_line at line u)
 
 abbrev pub compare_line : ℕ → List ℕ → Uncompared → Result Uncompared Difference
-compare_line at line u = compare_by at (expected_left_of line) (expected_of line) u
+compare_line at line u = compare_by (expected_left_of line) (expected_any_of line) (expected_of line) at line u
 
 -- what follows a line that was compared; the first difference
 abbrev pub difference_past : (Uncompared → Option Difference) → Result Uncompared Difference → Option Difference

@@ -1,13 +1,15 @@
 -- Macros of a test's own, and the test that its lines stand for without them.
-use Rattle.std.specs.Prelude.{ℕ, true, false, nat_le, ◌+◌, ◌-◌, ◌*◌, ◌==◌, ◌&&◌, ◌++◌, Bool, not, is_some, List, [], ◌∷◌, map, length, take, drop, replicate, codes, slice_get, Option, Some, None, option_and_then, unwrap_or, if◌then◌else◌}
+use Rattle.std.specs.Prelude.{ℕ, true, false, nat_le, ◌+◌, ◌-◌, ◌*◌, ◌==◌, ◌&&◌, ◌||◌, ◌++◌, Bool, not, is_some, List, [], ◌∷◌, map, length, take, drop, replicate, codes, slice_get, Option, Some, None, option_and_then, unwrap_or, if◌then◌else◌}
 use Rattle.std.specs.Bool.{then_some}
 use Rattle.std.specs.List.{count_by, find, flat_map, list_all, repeat, slice_split}
 use Rattle.std.specs.Str.{bytes_eq}
 use Rattle.usb_scripttext.specs.Number.{u32_of}
 use Rattle.usb_scripttext.specs.Prefix.{behind}
-use Rattle.usb_scripttext.specs.Words.{words_in}
+use Rattle.usb_scripttext.specs.Words.{says_nothing, words_in}
 use Rattle.trace_test.specs.Comparison.{first_text}
-use Rattle.trace_test.specs.Expanded.{Expansion, lines_in, nothing_added, text_of}
+use Rattle.trace_test.specs.Expanded.{Expansion, lines_in, most_times, nothing_added, text_of}
+use Rattle.trace_test.specs.Expected.{expected_of}
+use Rattle.trace_test.specs.Parts.{parts_around}
 
 -- a macro: the number of its first line, that line, its name, and the text of its body, each line of which ends with a line feed
 pub record Macro : Type 0 where
@@ -23,12 +25,9 @@ pub record Known : Type 0 where
   pub room : ℕ
   pub unrolled : Expansion
 
--- how many lines a body has at most; how many times a call's body may stand; and how many bytes a test's lines stand for at most, those of its macros' bodies among them
+-- how many lines a body has at most, and how many bytes a test's lines stand for at most, those of its macros' bodies among them
 abbrev pub most_lines : ℕ
 most_lines = 65536
-
-abbrev pub most_times : ℕ
-most_times = 65536
 
 abbrev pub most_bytes : ℕ
 most_bytes = 67108864
@@ -107,9 +106,21 @@ called closed room words =
     (option_and_then body_of (named closed (first_text (call_words words)))))
     (times_of words)
 
--- what a line outside of a macro or in its body stands for: as a call, or itself
+-- a line's parts around its arrow, the first ` -> `: what it does, and what that has to print. None where it has none, of a comment and of a line that expects something
+abbrev pub arrow_of : List ℕ → Option (List ℕ × List ℕ)
+arrow_of line = if says_nothing line || is_some (expected_of line) then None else parts_around (codes " -> ") line
+
+-- what a line without an arrow stands for: as a call, or itself
+abbrev pub plain_meaning : List Macro → ℕ → List ℕ → List ℕ
+plain_meaning closed room line = unwrap_or (called closed room (words_in line)) (line ++ codes "\n")
+
+-- what a line outside of a macro or in its body stands for: what it stands for without its arrow, and below that a line that expects what stands behind the arrow
+abbrev pub meaning_by : Option (List ℕ × List ℕ) → List Macro → ℕ → List ℕ → List ℕ
+meaning_by None closed room line = plain_meaning closed room line
+meaning_by (Some parts) closed room line = plain_meaning closed room parts.0 ++ (codes "expect " ++ (parts.1 ++ codes "\n"))
+
 abbrev pub meaning : List Macro → ℕ → List ℕ → List ℕ
-meaning closed room line = unwrap_or (called closed room (words_in line)) (line ++ codes "\n")
+meaning closed room line = meaning_by (arrow_of line) closed room line
 
 -- a text is added, each line of which comes from this line of the test
 abbrev pub with_text : ℕ → List ℕ → Expansion → Expansion

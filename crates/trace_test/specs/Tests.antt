@@ -1,6 +1,7 @@
 -- What came of a test.
-use Rattle.std.specs.Prelude.{◌≡◌, ◌++◌, ℕ, List, [], map, codes, Option, Some, None, Ok, Err}
+use Rattle.std.specs.Prelude.{◌≡◌, ◌++◌, ◌||◌, ◌==◌, ℕ, nat_eq, Bool, List, [], ◌∷◌, map, codes, Option, Some, None, Ok, Err, if◌then◌else◌}
 use Rattle.std.specs.Fmt.{decimal}
+use Rattle.std.specs.List.{ends_with, flat_map, list_any}
 use Rattle.trace_io.specs.Faults.{IsOfRun}
 use Rattle.trace_io.specs.declared.fault.Fault.{Fault}
 use Rattle.trace_io.specs.declared.fault.Fault.TheVariants.{Line}
@@ -78,9 +79,25 @@ abbrev pub IsOfTest : List ℕ → Fault → Type 0
 IsOfTest text (Line at) = (line : ℕ) × IsOfPlainTest (unrolled text).text (Line line) × (at ≡ origin_of (unrolled text) line)
 IsOfTest text fault = IsOfRun fault
 
+-- the scenario that a test stands for: what it stands for without macros does, each line with the number of the test's line that it comes from
+abbrev pub StandsAs : List ℕ → Expansion → Type 0
+StandsAs text e = (plain : Expansion) × Expands (unrolled text).text plain × (e ≡ record { text = plain.text; origins = map (origin_of (unrolled text)) plain.origins })
+
+-- whether a reader would miss something of a text: a carriage return, or a space at its end
+abbrev pub hides : List ℕ → Bool
+hides text = list_any (λ b. b == 13) text || ends_with nat_eq text (codes " ")
+
+-- a byte that is seen
+abbrev pub seen : ℕ → List ℕ
+seen b = if b == 13 then codes "\\r" else b ∷ []
+
+-- a text that is seen as it is: between double quotes where a reader would miss something of it
+abbrev pub visible : List ℕ → List ℕ
+visible text = if hides text then codes "\"" ++ (flat_map seen text ++ codes "\"") else text
+
 -- what is told of a test
 abbrev pub outcome_text : TestOutcome → List ℕ
 outcome_text Passed = codes "passed\n"
 outcome_text (Differs d) =
-    codes "line " ++ (decimal d.line ++ (codes " differs\n  wanted " ++ (d.wanted ++ (codes "\n  got    " ++ (d.got ++ codes "\n")))))
+    codes "line " ++ (decimal d.line ++ (codes " differs\n  wanted " ++ (visible d.wanted ++ (codes "\n  got    " ++ (visible d.got ++ codes "\n")))))
 outcome_text (Unexpected unexpected) = unexpected_text unexpected

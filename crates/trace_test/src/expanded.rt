@@ -1,16 +1,21 @@
 //! The scenario that the lines of a test stand for.
 
-ghost use Rattle.std.specs.Prelude.{◌≡◌, ◌++◌, ◌∷◌, [], IfOk, IfSome, map, replicate};
-ghost use Rattle.trace_test.specs.Expanded.{AddsLine, AddsLines, Expands, StandsFor, nothing_added, origin_of, settling_line};
+ghost use Rattle.std.specs.Prelude.{◌≡◌, ◌++◌, ◌∷◌, [], IfOk, map, option_map, replicate};
+ghost use Rattle.usb_scripttext.specs.Number.{u32_of};
+ghost use Rattle.trace_test.specs.Expanded.{AddsLine, AddsLines, Expands, is_settle, may_be_nothing, nothing_added, origin_of, repeated, says_of_device, settling_line, times_of};
 ghost use Rattle.trace_test.specs.Macros.{with_text};
 
 use crate::expected::expected;
-use crate::macros::line_count;
-use crate::settling::{Settling, steps_to_rest};
+use crate::parts::parts_around;
+use crate::settling::{OpenRun, Settling};
+use crate::table::line_count;
 use std::alloc::{AllocError, Global};
 use std::marker::Model;
 use std::str;
+use usb_devicetext::DeskLine;
+use usb_scripttext::LineFault;
 use usb_scripttext::number::decimal_u32;
+use usb_scripttext::words::says_nothing;
 
 /// The text of a scenario, each line with the number of the line of a test that it comes from.
 #[derive(Drop)]
@@ -31,9 +36,9 @@ impl Model for Expanded {
 
 /// A line, and how many times it stands for itself.
 #[derive(Clone, Copy)]
-struct Repeated<'a> {
-    line: &'a [u8],
-    times: u32,
+pub(crate) struct Repeated<'a> {
+    pub(crate) line: &'a [u8],
+    pub(crate) times: u32,
 }
 
 /// How many times a line may stand for itself, and a macro's body for a call.
@@ -96,9 +101,9 @@ impl Expanded {
         Ok(())
     }
 
-    /// Adds a line, or it so many times where a star behind it says so.
-    fn push_repeated(&mut self, at: u64, line: &[u8]) -> Result<(), AllocError>
-        ensures { IfOk result (λ _. AddsLine at line.now self.old self.new) }
+    /// Adds a line, or so many times what stands in front of a star.
+    pub(crate) fn push_repeated(&mut self, at: u64, line: &[u8]) -> Result<(), AllocError>
+        ensures { IfOk result (λ _. AddsLines at (repeated line.now (times_of line.now)) self.old self.new) }
     {
         match times_of(line) {
             Some(Repeated { line, times }) => self.push_times(at, line, times)?,
@@ -107,33 +112,30 @@ impl Expanded {
         Ok(())
     }
 
-    /// Adds what a line of a test stands for.
-    fn add(&mut self, alloc: Global, test: &[u8], at: u64, line: &[u8]) -> Result<(), AllocError>
+    /// Adds what a line of a test stands for, and makes its steps on the run that is open.
+    #[tactic(auto, using(crate::proofs::Stands::adds_nothing, crate::proofs::Stands::adds_steps, crate::proofs::Stands::passes_over, crate::proofs::Stands::adds_repeated))]
+    fn add(
+        &mut self,
+        alloc: Global,
+        run: &mut OpenRun,
+        at: u64,
+        line: &[u8],
+    ) -> Result<(), AllocError>
         ensures { IfOk result (λ _. AddsLine at line.now self.old self.new) }
     {
         if expected(line).is_some() {
             return Ok(());
         }
-        if line == b"settle".as_slice() {
-            let fed = fed_behind(alloc, test, at)?;
-            let steps = steps_to_rest(alloc, self.text.as_slice(), fed.as_slice())?;
-            self.push_steps(at, steps.as_slice())?;
+        if is_settle(line) {
+            let steps = run.settle(alloc)?;
+            return self.push_steps(at, steps.as_slice());
+        }
+        if says_of_device(alloc, line)? {
             return Ok(());
         }
+        run.follow(alloc, line)?;
         self.push_repeated(at, line)
     }
-}
-
-/// The lines behind one of a test's that feed devices: their answers are as if they had been known from the beginning.
-fn fed_behind(alloc: Global, test: &[u8], at: u64) -> Result<Vec<u8>, AllocError> {
-    let mut fed = Expanded::new(alloc);
-    for line in test.split(|byte| *byte == b'\n').skip(at as usize) {
-        if line.starts_with(b"feed ") {
-            fed.push_repeated(at, line)?;
-        }
-    }
-    let Expanded { text, .. } = fed;
-    Ok(text)
 }
 
 /// Adds a number so many times.
@@ -146,25 +148,70 @@ fn push_number(numbers: &mut Vec<u64>, number: u64, times: usize) -> Result<(), 
     Ok(())
 }
 
-/// The line in front of a star, and the number of times behind it; None where a line has no such end.
-fn times_of(line: &[u8]) -> Option<Repeated<'_>>
-    ensures { IfSome result (λ r. StandsFor line.now (replicate r.times r.line.now)) }
+/// The number of a decimal word; None where the word is none.
+pub(crate) fn number(word: &[u8]) -> Option<u32>
+    ensures { result ≡ u32_of word.now }
 {
-    let (front, digits) = str::from_utf8(line).ok()?.split_once(" *")?;
-    let times = decimal_u32(digits)?;
-    let line = front.as_bytes();
+    match str::from_utf8(word) {
+        Ok(word) => decimal_u32(word),
+        Err(_) => None,
+    }
+}
+
+/// What stands in front of a star, and the number of times behind it; None where a line has no such end, and of a comment.
+pub(crate) fn times_of(line: &[u8]) -> Option<Repeated<'_>>
+    ensures { option_map (λ r. (r.line.now, r.times)) result ≡ times_of line.now }
+{
+    if says_nothing(line) {
+        return None;
+    }
+    let (line, digits) = parts_around(b" *", line)?;
+    let times = number(digits)?;
     (times <= MOST_TIMES).then_some(Repeated { line, times })
 }
 
-/// The scenario that a test stands for. An error where memory is refused.
-pub fn expand(alloc: Global, text: &[u8]) -> Result<Expanded, AllocError>
+/// Whether a line settles.
+pub(crate) fn is_settle(line: &[u8]) -> bool
+    ensures { result ≡ is_settle line.now }
+{
+    line == b"settle".as_slice()
+}
+
+/// Whether a line says something of a device that its run doesn't show. An error where memory is refused.
+fn says_of_device(alloc: Global, line: &[u8]) -> Result<bool, AllocError>
+    ensures { IfOk result (λ says. says ≡ says_of_device line.now) }
+{
+    match DeskLine::from_text(alloc, line) {
+        Ok(said) => Ok(matches!(said, DeskLine::Says { .. })),
+        Err(LineFault::Bad(_)) => Ok(false),
+        Err(LineFault::Memory) => Err(AllocError),
+    }
+}
+
+/// Whether a line may stand for no line at all, though it expects nothing.
+pub(crate) fn may_be_nothing(line: &[u8]) -> bool
+    ensures { result ≡ may_be_nothing line.now }
+{
+    is_settle(line) || matches!(times_of(line), Some(Repeated { times: 0, .. }))
+}
+
+/// The scenario that a test stands for, whose lines' steps are made on a run over its devices. An error where memory is refused.
+fn expand_by(alloc: Global, text: &[u8], run: &mut OpenRun) -> Result<Expanded, AllocError>
     ensures { IfOk result (λ e. Expands text.now e) }
 {
     let mut expanded = Expanded::new(alloc);
     let mut at: u64 = 0;
     for line in text.split(|byte| *byte == b'\n') {
         at = at.saturating_add(1);
-        expanded.add(alloc, text, at, line)?;
+        expanded.add(alloc, run, at, line)?;
     }
     Ok(expanded)
+}
+
+/// The scenario that a test stands for. An error where memory is refused.
+pub fn expand(alloc: Global, text: &[u8]) -> Result<Expanded, AllocError>
+    ensures { IfOk result (λ e. Expands text.now e) }
+{
+    let mut run = OpenRun::new(alloc, text)?;
+    expand_by(alloc, text, &mut run)
 }

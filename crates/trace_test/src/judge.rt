@@ -1,6 +1,7 @@
 //! A test, and what came of it.
 
 ghost use Rattle.std.specs.Prelude.{◌≡◌, ◌++◌, [], IfErr, IfOk, length, map};
+ghost use Rattle.std.specs.List.{flat_map};
 ghost use Rattle.std.specs.Option.{option_map};
 ghost use Rattle.trace_test.specs.declared.difference.TestOutcome.TheVariants.{Differs};
 ghost use Rattle.trace_io.specs.Faults.{IsOfRun};
@@ -10,7 +11,7 @@ ghost use Rattle.trace_run.specs.Stepwise.{stepwise_text};
 ghost use Rattle.trace_run.specs.Tasks.{left_lines};
 ghost use Rattle.trace_test.specs.Comparison.{difference_from, texts_of};
 ghost use Rattle.trace_test.specs.Expanded.{lines_in, origin_of};
-ghost use Rattle.trace_test.specs.Tests.{IsOfPlainTest, IsOfTest, IsOutcome, IsPlainOutcome, by_origin, fault_by_origin, outcome_by, outcome_text, packet_by_origin};
+ghost use Rattle.trace_test.specs.Tests.{IsOfPlainTest, IsOfTest, IsOutcome, IsPlainOutcome, by_origin, fault_by_origin, hides, outcome_by, outcome_text, packet_by_origin, seen, visible};
 
 use crate::difference::{Difference, TestOutcome};
 use crate::expanded::{Expanded, expand};
@@ -208,6 +209,49 @@ pub fn report(alloc: Global, outcome: &TestOutcome) -> Result<Vec<u8>, AllocErro
     Ok(text)
 }
 
+/// Whether a reader would miss something of a text: a carriage return, or a space at its end.
+fn hides(text: &[u8]) -> bool
+    ensures { result ≡ hides text.now }
+{
+    text.contains(&b'\r') || text.ends_with(b" ")
+}
+
+/// Puts a byte that is seen behind a text.
+fn put_seen(text: &mut Vec<u8>, byte: u8) -> Result<(), AllocError>
+    ensures { IfOk result (λ _. text.new.items ≡ text.old.items ++ seen byte) }
+{
+    if byte == b'\r' {
+        text.extend_from_slice(b"\\r")?;
+    } else {
+        text.push(byte)?;
+    }
+    Ok(())
+}
+
+/// Puts the bytes of one text, each seen, behind another.
+fn put_bytes(text: &mut Vec<u8>, bytes: &[u8]) -> Result<(), AllocError>
+    ensures { IfOk result (λ _. text.new.items ≡ text.old.items ++ flat_map seen bytes.now) }
+{
+    for byte in bytes {
+        put_seen(text, *byte)?;
+    }
+    Ok(())
+}
+
+/// Puts a text that is seen as it is behind another: between double quotes, where a reader would miss something of it.
+fn put_visible(text: &mut Vec<u8>, told: &[u8]) -> Result<(), AllocError>
+    ensures { IfOk result (λ _. text.new.items ≡ text.old.items ++ visible told.now) }
+{
+    if !hides(told) {
+        text.extend_from_slice(told)?;
+        return Ok(());
+    }
+    text.push(b'"')?;
+    put_bytes(text, told)?;
+    text.push(b'"')?;
+    Ok(())
+}
+
 /// Puts the text of a difference behind another.
 fn put_difference(
     alloc: Global,
@@ -218,9 +262,9 @@ fn put_difference(
 {
     let front = format!(in alloc; "line {} differs\n  wanted ", difference.line)?;
     text.extend_from_slice(front.as_bytes())?;
-    text.extend_from_slice(difference.wanted.as_slice())?;
+    put_visible(text, difference.wanted.as_slice())?;
     text.extend_from_slice(b"\n  got    ")?;
-    text.extend_from_slice(difference.got.as_slice())?;
+    put_visible(text, difference.got.as_slice())?;
     text.push(b'\n')?;
     Ok(())
 }

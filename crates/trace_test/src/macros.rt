@@ -1,83 +1,28 @@
 //! Macros of a test's own, and the test that its lines stand for without them.
 
-ghost use Rattle.std.specs.Prelude.{◌≡◌, ◌++◌, IfOk, drop, option_and_then, option_copied, option_map};
-ghost use Rattle.std.specs.Str.{bytes_eq};
-ghost use Rattle.usb_scripttext.specs.Number.{u32_of};
+ghost use Rattle.std.specs.Prelude.{◌≡◌, ◌++◌, IfOk, option_copied, option_map};
 ghost use Rattle.usb_scripttext.specs.Words.{words_in};
 ghost use Rattle.trace_test.specs.Comparison.{texts_of};
-ghost use Rattle.trace_test.specs.Macros.{argument, behind_line, body_of, call_words, called, ended, filled, inside, is_word, line_count, meaning, name_begun, named, nothing_known, outside, part_filled, parts_in, star_of, times_of, times_within, unrolled, with_text, within};
+ghost use Rattle.trace_test.specs.Macros.{argument, arrow_of, behind_line, call_words, called, ended, filled, inside, is_word, meaning, name_begun, nothing_known, outside, part_filled, parts_in, plain_meaning, star_of, times_of, times_within, unrolled, within};
+ghost use Rattle.trace_test.specs.Parts.{lent_parts};
 
-use crate::expanded::{Expanded, MOST_TIMES};
-use crate::expected::behind;
+use crate::expanded::{Expanded, MOST_TIMES, number};
+use crate::expected::{behind, expected};
+use crate::parts::{parts_around, past_first};
+use crate::table::{Macro, Table};
 use crate::unmet::first_text;
 use std::alloc::{AllocError, Global};
 use std::marker::Model;
-use std::str;
-use usb_scripttext::number::decimal_u32;
-
-/// How many lines the body of a macro has at most.
-const MOST_LINES: usize = 65_536;
+use usb_scripttext::words::says_nothing;
 
 /// How many bytes a test's lines stand for at most, those of its macros' bodies among them.
 const MOST_BYTES: usize = 67_108_864;
-
-/// A macro.
-#[derive(Drop)]
-struct Macro<'a> {
-    /// The number of its first line.
-    at: u64,
-    /// That line.
-    line: &'a [u8],
-    /// Its name.
-    name: &'a [u8],
-    /// Its body, each line of which ends with a line feed.
-    body: Vec<u8>,
-}
-
-impl<'a> Model for Macro<'a> {
-    ghost use Rattle.trace_test.specs.Macros.{Macro as MacroValue};
-
-    ghost Value = { MacroValue };
-
-    ghost view = { λ m. record { at = m.at; line = m.line.now; name = m.name.now; body = m.body.items } };
-}
-
-impl<'a> Macro<'a> {
-    /// Whether this is its name.
-    fn is_named(&self, name: &[u8]) -> bool
-        ensures { result ≡ bytes_eq self.now.name name.now }
-    {
-        self.name == name
-    }
-
-    /// Its body; None where that has too many lines.
-    fn body(&self) -> Option<&[u8]>
-        ensures { option_copied result ≡ body_of self.now }
-    {
-        let body = self.body.as_slice();
-        (line_count(body) <= MOST_LINES).then_some(body)
-    }
-}
-
-/// The latest macro of a name.
-fn named<'m, 'a>(name: &[u8], closed: &'m [Macro<'a>]) -> Option<&'m Macro<'a>>
-    ensures { option_copied result ≡ named closed.now name.now }
-{
-    closed.iter().find(|each| each.is_named(name))
-}
-
-/// The body of the latest macro of a name; None where there is none, or it has too many lines.
-fn body_named<'m>(name: &[u8], closed: &'m [Macro<'_>]) -> Option<&'m [u8]>
-    ensures { option_copied result ≡ option_and_then body_of (named closed.now name.now) }
-{
-    named(name, closed)?.body()
-}
 
 /// What is known at a line of a test.
 #[derive(Drop)]
 struct Macros<'a> {
     /// The macros that were closed, the latest first.
-    closed: Vec<Macro<'a>>,
+    closed: Table<'a>,
     /// The macro that is begun and not closed.
     begun: Option<Macro<'a>>,
     /// How many more bytes lines may stand for.
@@ -91,7 +36,7 @@ impl<'a> Model for Macros<'a> {
 
     ghost Value = { Known };
 
-    ghost view = { λ m. record { closed = m.closed.items; begun = m.begun; room = m.room; unrolled = m.unrolled } };
+    ghost view = { λ m. record { closed = m.closed; begun = m.begun; room = m.room; unrolled = m.unrolled } };
 }
 
 /// The words of a line.
@@ -106,13 +51,6 @@ fn parts_in(alloc: Global, body: &[u8]) -> Result<Vec<&[u8]>, AllocError>
     ensures { IfOk result (λ parts. texts_of parts.items ≡ parts_in body.now) }
 {
     body.split(|byte| *byte == b'$').collect(alloc)
-}
-
-/// How many lines of a text end.
-pub(crate) fn line_count(text: &[u8]) -> usize
-    ensures { result ≡ line_count text.now }
-{
-    text.iter().filter(|byte| **byte == b'\n').count()
 }
 
 /// Whether a text has no space.
@@ -130,6 +68,16 @@ fn name_begun(line: &[u8]) -> Option<&[u8]>
     (!name.is_empty() && is_word(name)).then_some(name)
 }
 
+/// What a line with an arrow does, and what that has to print; None where it has none, says nothing or expects something.
+fn arrow_of(line: &[u8]) -> Option<(&[u8], &[u8])>
+    ensures { lent_parts result ≡ arrow_of line.now }
+{
+    if says_nothing(line) || expected(line).is_some() {
+        return None;
+    }
+    parts_around(b" -> ", line)
+}
+
 /// The word of a call that the digit stands for with which a text begins; None where there is no such word, or no digit from 1 to 9.
 fn argument<'a>(words: &[&'a [u8]], text: &[u8]) -> Option<&'a [u8]>
     ensures { option_copied result ≡ argument (texts_of words.now) text.now }
@@ -139,16 +87,6 @@ fn argument<'a>(words: &[&'a [u8]], text: &[u8]) -> Option<&'a [u8]>
             words.get(usize::from(*digit - b'0')).copied()
         }
         _ => None,
-    }
-}
-
-/// Some items without the first.
-fn past_first<T>(items: &[T]) -> &[T]
-    ensures { result.now ≡ drop 1 items.now }
-{
-    match items {
-        [_, rest @ ..] => rest,
-        [] => items,
     }
 }
 
@@ -215,16 +153,6 @@ fn star_of<'a>(words: &[&'a [u8]]) -> Option<&'a [u8]>
     behind(b"*", last)
 }
 
-/// The number of a decimal word; None where the word is none.
-fn number(word: &[u8]) -> Option<u32>
-    ensures { result ≡ u32_of word.now }
-{
-    match str::from_utf8(word) {
-        Ok(word) => decimal_u32(word),
-        Err(_) => None,
-    }
-}
-
 /// How many times the body of a call stands; None where its last word has a star and no such number behind it.
 fn times_of(words: &[&[u8]]) -> Option<u32>
     ensures { result ≡ times_of (texts_of words.now) }
@@ -252,7 +180,7 @@ impl<'a> Macros<'a> {
         ensures { result ≡ nothing_known }
     {
         Macros {
-            closed: Vec::new(alloc),
+            closed: Table::new(alloc),
             begun: None,
             room: MOST_BYTES,
             unrolled: Expanded::new(alloc),
@@ -267,7 +195,7 @@ impl<'a> Macros<'a> {
             return Ok(None);
         };
         let words = call_words(words);
-        let Some(body) = body_named(first_text(words), self.closed.as_slice()) else {
+        let Some(body) = self.closed.body(first_text(words)) else {
             return Ok(None);
         };
         let Some(once) = filled(alloc, words, body, self.room)? else {
@@ -276,15 +204,29 @@ impl<'a> Macros<'a> {
         times_within(alloc, self.room, times, once.as_slice())
     }
 
-    /// What a line stands for.
-    fn meaning(&self, alloc: Global, line: &[u8]) -> Result<Vec<u8>, AllocError>
-        ensures { IfOk result (λ text. text.items ≡ meaning self.now.closed self.now.room line.now) }
+    /// What a line without an arrow stands for.
+    fn plain_meaning(&self, alloc: Global, line: &[u8]) -> Result<Vec<u8>, AllocError>
+        ensures { IfOk result (λ text. text.items ≡ plain_meaning self.now.closed self.now.room line.now) }
     {
         let words = words_in(alloc, line)?;
         if let Some(text) = self.called(alloc, words.as_slice())? {
             return Ok(text);
         }
         let mut text = line.to_vec(alloc)?;
+        text.push(b'\n')?;
+        Ok(text)
+    }
+
+    /// What a line stands for; with an arrow, what it does, and below that a line that expects what has to be printed.
+    fn meaning(&self, alloc: Global, line: &[u8]) -> Result<Vec<u8>, AllocError>
+        ensures { IfOk result (λ text. text.items ≡ meaning self.now.closed self.now.room line.now) }
+    {
+        let Some((done, wanted)) = arrow_of(line) else {
+            return self.plain_meaning(alloc, line);
+        };
+        let mut text = self.plain_meaning(alloc, done)?;
+        text.extend_from_slice(b"expect ")?;
+        text.extend_from_slice(wanted)?;
         text.push(b'\n')?;
         Ok(text)
     }
@@ -299,7 +241,7 @@ impl<'a> Macros<'a> {
         ensures { IfOk result (λ _. self.new ≡ inside line.now begun.entry self.old) }
     {
         if line == b"end".as_slice() {
-            self.closed.insert(0, begun)?;
+            self.closed.put(begun)?;
             return Ok(());
         }
         let text = self.meaning(alloc, line)?;

@@ -2,11 +2,14 @@
 
 ghost use Rattle.std.specs.Prelude.{◌≡◌, ◌≤◌, IfOk, length, None, Some, drop, nat_eq, string_bytes, if◌then◌else◌};
 ghost use Rattle.std.specs.List.{prefix_len, starts_with};
-ghost use Rattle.std.specs.Str.{bytes_eq};
-ghost use Rattle.trace_test.specs.Comparison.{at_line, compare_entry, compare_left, compare_line, compared_as, differs, first_text, front_of, got_of, shown, taken, texts_of};
+ghost use Rattle.std.specs.Option.{option_copied};
+ghost use Rattle.trace_test.specs.Comparison.{any_of, at_line, compare_any, compare_entry, compare_left, compare_line, compared_as, differs, first_text, front_of, is_other, next_of, past_others, shown, taken, texts_of};
+ghost use Rattle.trace_test.specs.Expected.{fits};
 
 use crate::difference::Difference;
-use crate::expected::{behind, expected, expected_left};
+use crate::expanded::may_be_nothing;
+use crate::expected::{behind, expected, expected_any, expected_left, fits};
+use crate::parts::past_first;
 use std::alloc::{AllocError, Global};
 use std::marker::Model;
 use usb_model::Bytes;
@@ -66,6 +69,35 @@ fn past_front<'a>(front: &[u8], texts: &'a [&'a [u8]]) -> &'a [&'a [u8]]
     rest
 }
 
+/// Whether a printed line begins with the front of a line's entries, and has another entry than is wanted.
+fn is_other(front: &[u8], wanted: &[u8], text: &[u8]) -> bool
+    ensures { result ≡ is_other front.now wanted.now text.now }
+{
+    match behind(front, text) {
+        Some(entry) => !fits(wanted, entry),
+        None => false,
+    }
+}
+
+/// How many texts in front have other entries of a line than is wanted.
+fn count_others(front: &[u8], wanted: &[u8], texts: &[&[u8]]) -> usize
+    ensures count { result ≡ prefix_len (λ text. is_other front.now wanted.now text.now) texts.now }
+    ensures within { result ≤ length texts.now }
+{
+    texts
+        .iter()
+        .take_while(|text| is_other(front, wanted, text))
+        .count()
+}
+
+/// What stands behind them.
+fn past_others<'a>(front: &[u8], wanted: &[u8], texts: &'a [&'a [u8]]) -> &'a [&'a [u8]]
+    ensures { texts_of result.now ≡ drop (prefix_len (is_other front.now wanted.now) (texts_of texts.now)) (texts_of texts.now) }
+{
+    let (_, rest) = texts.split_at(count_others(front, wanted, texts));
+    rest
+}
+
 /// What is shown of a text that was got.
 fn shown(got: &[u8]) -> &[u8]
     ensures { result.now ≡ shown got.now }
@@ -83,24 +115,39 @@ fn past_taken<'a>(got: &[u8], texts: &'a [&'a [u8]]) -> &'a [&'a [u8]]
     }
 }
 
-/// How a line differs, where what it expects isn't what was got.
+/// How a line differs that wants something, and finds something else.
+fn differs(alloc: Global, at: u64, wanted: &[u8], got: &[u8]) -> Result<Difference, AllocError>
+    ensures { IfOk result (λ d. d ≡ differs at wanted.now got.now) }
+{
+    Ok(Difference {
+        line: at,
+        wanted: Bytes::from_vec(wanted.to_vec(alloc)?),
+        got: Bytes::from_vec(shown(got).to_vec(alloc)?),
+    })
+}
+
+/// How a line differs, where what was got isn't what it wants.
 fn difference(
     alloc: Global,
     at: u64,
     wanted: &[u8],
     got: &[u8],
 ) -> Result<Option<Difference>, AllocError>
-    ensures { IfOk result (λ d. d ≡ (if bytes_eq wanted.now (shown got.now) then None else Some (differs at wanted.now got.now))) }
+    ensures { IfOk result (λ d. d ≡ (if fits wanted.now (shown got.now) then None else Some (differs at wanted.now got.now))) }
 {
-    let got = shown(got);
-    if wanted == got {
+    if fits(wanted, shown(got)) {
         return Ok(None);
     }
-    Ok(Some(Difference {
-        line: at,
-        wanted: Bytes::from_vec(wanted.to_vec(alloc)?),
-        got: Bytes::from_vec(got.to_vec(alloc)?),
-    }))
+    Ok(Some(differs(alloc, at, wanted, got)?))
+}
+
+/// What a line wants some entry to be, as it says it.
+fn any_of(alloc: Global, wanted: &[u8]) -> Result<Vec<u8>, AllocError>
+    ensures { IfOk result (λ text. text.items ≡ any_of wanted.now) }
+{
+    let mut text = b"any ".to_vec(alloc)?;
+    text.extend_from_slice(wanted)?;
+    Ok(text)
 }
 
 impl<'a> Unmet<'a> {
@@ -115,28 +162,39 @@ impl<'a> Unmet<'a> {
         }
     }
 
-    /// The next entry of the line that is compared; none where there is none.
-    fn got(&self, alloc: Global) -> Result<&'a [u8], AllocError>
-        ensures { IfOk result (λ got. got.now ≡ got_of self.now) }
+    /// The same once more.
+    pub(crate) fn again(&self) -> Unmet<'a>
+        ensures { result ≡ self.now }
     {
-        let front = front_of(alloc, self.of)?;
-        Ok(behind(front.as_bytes(), first_text(self.printed)).unwrap_or(b""))
+        Unmet {
+            of: self.of,
+            printed: self.printed,
+            left: self.left,
+        }
     }
 
-    /// Where a line has entries, these are compared next.
-    fn begin(&mut self, alloc: Global, at: u64) -> Result<(), AllocError>
-        ensures { IfOk result (λ _. self.new ≡ at_line at self.old) }
+    /// The next entry of the line that is compared, if there is one.
+    fn next(&self, alloc: Global) -> Result<Option<&'a [u8]>, AllocError>
+        ensures { IfOk result (λ next. option_copied next ≡ next_of self.now) }
+    {
+        let front = front_of(alloc, self.of)?;
+        Ok(behind(front.as_bytes(), first_text(self.printed)))
+    }
+
+    /// Where a line has entries, these are compared next; so where it may stand for no line.
+    fn begin(&mut self, alloc: Global, at: u64, line: &[u8]) -> Result<(), AllocError>
+        ensures { IfOk result (λ _. self.new ≡ at_line at line.now self.old) }
     {
         let (front, next) = (front_of(alloc, self.of)?, front_of(alloc, at)?);
         let printed = past_front(front.as_bytes(), self.printed);
-        if first_text(printed).starts_with(next.as_bytes()) {
+        if may_be_nothing(line) || first_text(printed).starts_with(next.as_bytes()) {
             self.of = at;
             self.printed = printed;
         }
         Ok(())
     }
 
-    /// Compares an entry that a line expects.
+    /// Compares the next entry with what a line expects it to be.
     fn compare_entry(
         &mut self,
         alloc: Global,
@@ -145,9 +203,37 @@ impl<'a> Unmet<'a> {
     ) -> Result<Option<Difference>, AllocError>
         ensures { IfOk result (λ d. compare_entry at wanted.now self.old ≡ compared_as d self.new) }
     {
-        let got = self.got(alloc)?;
+        let got = self.next(alloc)?.unwrap_or(b"");
         self.printed = past_taken(got, self.printed);
         difference(alloc, at, wanted, got)
+    }
+
+    /// Goes on to the first entry that is wanted, or behind the entries of the line where none is.
+    fn pass_others(&mut self, alloc: Global, wanted: &[u8]) -> Result<(), AllocError>
+        ensures { IfOk result (λ _. self.new ≡ past_others wanted.now self.old) }
+    {
+        let front = front_of(alloc, self.of)?;
+        self.printed = past_others(front.as_bytes(), wanted, self.printed);
+        Ok(())
+    }
+
+    /// Compares entries with what a line expects one of them to be.
+    fn compare_any(
+        &mut self,
+        alloc: Global,
+        at: u64,
+        wanted: &[u8],
+    ) -> Result<Option<Difference>, AllocError>
+        ensures { IfOk result (λ d. compare_any at wanted.now self.old ≡ compared_as d self.new) }
+    {
+        let got = self.next(alloc)?.unwrap_or(b"");
+        self.pass_others(alloc, wanted)?;
+        if self.next(alloc)?.is_none() {
+            let wanted = any_of(alloc, wanted)?;
+            return Ok(Some(differs(alloc, at, wanted.as_slice(), got)?));
+        }
+        self.printed = past_first(self.printed);
+        Ok(None)
     }
 
     /// Compares what a line expects to be left.
@@ -176,10 +262,13 @@ impl<'a> Unmet<'a> {
         if let Some(wanted) = expected_left(line) {
             return self.compare_left(alloc, at, wanted);
         }
+        if let Some(wanted) = expected_any(line) {
+            return self.compare_any(alloc, at, wanted);
+        }
         if let Some(wanted) = expected(line) {
             return self.compare_entry(alloc, at, wanted);
         }
-        self.begin(alloc, at)?;
+        self.begin(alloc, at, line)?;
         Ok(None)
     }
 }

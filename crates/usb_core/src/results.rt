@@ -13,7 +13,7 @@ use crate::parts::Parts;
 use std::alloc::AllocError;
 use usb_device::Device;
 use usb_model::{BytesRead, EpAddr, InCallback, Name, Returned};
-use usb_tables::{Ended, Transfer};
+use usb_tables::{EndedTransfer, Transfer};
 
 /// A transfer that ended, as it goes out to its callback.
 #[derive(Drop)]
@@ -40,7 +40,7 @@ impl<P, D: Device> Parts<P, D> {
         };
         let name = first.name;
         self.callers.reserve_callback(name)?;
-        let Some(Ended { transfer, ending }) = self.flights.take() else {
+        let Some(EndedTransfer { transfer, ending }) = self.flights.take() else {
             unreachable!();
         };
         let Transfer {
@@ -91,7 +91,7 @@ impl<P, D: Device> Parts<P, D> {
 }
 
 /// Whose a transfer that ended is, and its endpoint.
-fn whose<P>(ended: &Ended<P>) -> (Name, EpAddr)
+fn whose<P>(ended: &EndedTransfer<P>) -> (Name, EpAddr)
     ensures name { result.0 ≡ ended.now.transfer.name }
     ensures ep { result.1 ≡ ended.now.transfer.request.ep }
 {
@@ -99,11 +99,11 @@ fn whose<P>(ended: &Ended<P>) -> (Name, EpAddr)
 }
 
 /// What goes out of a transfer that ended.
-fn taken_of<P>(ended: Ended<P>) -> Taken<P>
+fn taken_of<P>(ended: EndedTransfer<P>) -> Taken<P>
     ensures returned { result.returned ≡ returned_of (result_of (ended_of ended)) }
     ensures payload { result.payload ≡ ended.transfer.payload }
 {
-    let Ended { transfer, ending } = ended;
+    let EndedTransfer { transfer, ending } = ended;
     let Transfer {
         name,
         n,

@@ -1,11 +1,12 @@
 -- What a device answers to a request on its default control endpoint, as words say it.
-use Rattle.std.specs.Prelude.{ℕ, nat_le, nat_lt, Bool, false, ◌&&◌, List, codes, length, Option, Some, None, if◌then◌else◌}
+use Rattle.std.specs.Prelude.{ℕ, ◌-◌, nat_le, nat_lt, Bool, false, ◌&&◌, List, codes, length, take, Option, Some, None, if◌then◌else◌}
 use Rattle.std.specs.Option.{option_and_then}
 use Rattle.std.specs.Str.{bytes_eq}
 use Rattle.usb_model.specs.Limits.{longest_script}
 use Rattle.usb_scripttext.specs.Script.{each_of}
 use Rattle.usb_scripttext.specs.Number.{bytes_of}
 use Rattle.usb_scripttext.specs.Prefix.{behind}
+use Rattle.usb_scripttext.specs.Repeats.{all_copies, stays}
 use Rattle.usb_devicetext.specs.declared.answer.ControlAnswer.{ControlAnswer}
 use Rattle.usb_devicetext.specs.declared.answer.ControlAnswer.TheVariants as answer
 
@@ -36,6 +37,14 @@ answer_of kind word =
     else if reads kind then option_and_then data_of (behind (codes "d:") word)
     else None
 
--- the answers to requests of a type: one at least
-unfoldable pub answers_of : Option ℕ → List (List ℕ) → Option (List ControlAnswer)
-answers_of kind words = if nat_lt 0 (length words) && nat_le (length words) longest_script then each_of (answer_of kind) words else None
+-- the answers of words that are written out, to requests of a type: 1 to as many as a script may have
+unfoldable pub plain_answers_of : Option ℕ → List (List ℕ) → Option (List ControlAnswer)
+plain_answers_of kind words = if nat_lt 0 (length words) && nat_le (length words) longest_script then each_of (answer_of kind) words else None
+
+-- some words without a `..` at their end: the last answer to a request stays anyway
+unfoldable pub without_stays : List (List ℕ) → List (List ℕ)
+without_stays words = if stays words then take (length words - 1) words else words
+
+-- the answers to requests of a type: those of its words, each as often as it stands
+abbrev pub answers_of : Option ℕ → List (List ℕ) → Option (List ControlAnswer)
+answers_of kind words = plain_answers_of kind (all_copies (without_stays words))

@@ -1,5 +1,5 @@
 -- The forms of lines: what stands behind each first word.
-use Rattle.std.specs.Prelude.{ℕ, ◌-◌, ◌==◌, nat_le, Bool, ◌||◌, List, [], ◌∷◌, codes, length, slice_get, Option, Some, None, if◌then◌else◌}
+use Rattle.std.specs.Prelude.{ℕ, ◌-◌, ◌==◌, nat_le, nat_lt, bytes_eq, Bool, ◌&&◌, ◌||◌, List, [], ◌∷◌, codes, length, slice_get, Option, Some, None, if◌then◌else◌}
 use Rattle.std.specs.Option.{option_map, unwrap_or}
 use Rattle.usb_scripttext.specs.Number.{address_of}
 use Rattle.usb_model.specs.Setup.{is_in}
@@ -67,11 +67,16 @@ answer_in topic.Script words = option_map of_endpoint (address_of (word_at words
 answer_in topic.Control words = option_map of_request (any_of address_of (word_at words 2))
 answer_in topic words = None
 
+-- whether the word at a place says that the answer before it stays: the last of a line, behind an answer
+abbrev pub stays_at : ℕ → List (List ℕ) → ℕ → Bool
+stays_at places words at = nat_lt 1 (at - places) && ((at == length words - 1) && bytes_eq (word_at words at) (codes ".."))
+
 -- what the word at a place has to be
 abbrev pub wanted_at : Topic → List (List ℕ) → ℕ → Option Wanted
 wanted_at topic words at =
     if at == 0 then None
     else if nat_le at (length (form topic (length words))) then slice_get (form topic (length words)) (at - 1)
+    else if stays_at (length (form topic (length words))) words at then None
     else answer_in topic words
 
 -- the form, as a person reads it

@@ -1,5 +1,5 @@
 -- What is wrong with the words of a line, and when that is so.
-use Rattle.std.specs.Prelude.{◌≡◌, ℕ, ◌+◌, nat_le, nat_lt, Bool, true, false, ◌&&◌, ◌||◌, nat_eq, List, codes, ◌++◌, drop, length, Option, Some, None, Err}
+use Rattle.std.specs.Prelude.{◌≡◌, ℕ, ◌+◌, nat_le, nat_lt, Bool, true, false, ◌&&◌, ◌||◌, nat_eq, List, codes, ◌++◌, drop, length, Option, Some, None, Err, is_some}
 use Rattle.std.specs.Fmt.{decimal}
 use Rattle.std.specs.List.{starts_with}
 use Rattle.std.specs.Option.{option_map, option_map_or}
@@ -9,6 +9,7 @@ use Rattle.usb_descriptors.specs.declared.fault.DescFault.{DescFault}
 use Rattle.usb_descriptors.specs.declared.fault.DescFault.TheVariants as desc
 use Rattle.usb_descriptors.specs.Grammar.{reading}
 use Rattle.usb_scripttext.specs.Number.{bytes_of}
+use Rattle.usb_scripttext.specs.Repeats.{few_of, written_out}
 use Rattle.usb_devicetext.specs.declared.form_fault.FormFault.{FormFault}
 use Rattle.usb_devicetext.specs.declared.form_fault.FormFault.TheVariants as fault
 use Rattle.usb_devicetext.specs.declared.topic.Topic.{Topic}
@@ -29,6 +30,21 @@ unfoldable pub has_answer_count : Topic → ℕ → Bool
 has_answer_count topic.Script count = nat_le 4 count && nat_le count (3 + longest_script)
 has_answer_count topic.Control count = nat_le 7 count && nat_le count (6 + longest_script)
 has_answer_count topic count = true
+
+-- how many words stand in front of the answers
+abbrev pub answers_behind : Topic → Option ℕ
+answers_behind topic.Script = Some 3
+answers_behind topic.Control = Some 6
+answers_behind topic = None
+
+-- whether the answers behind so many words are no more than a script may have, each written out as often as it stands
+abbrev pub are_few : Option ℕ → List (List ℕ) → Bool
+are_few None words = true
+are_few (Some front) words = is_some (few_of (written_out (drop front words)))
+
+-- whether some words have 1 to 65,536 answers, where they have answers
+abbrev pub has_answers : Topic → List (List ℕ) → Bool
+has_answers topic words = has_answer_count topic (length words) && are_few (answers_behind topic) words
 
 -- the word at a place isn't what its line's form wants there
 pub record IsUnwanted (wanted : Wanted) (at : ℕ) (words : List (List ℕ)) : Type 0 where
@@ -55,7 +71,7 @@ abbrev pub FitsForm : FormFault → List (List ℕ) → Type 0
 FitsForm (fault.Space at) words = (nat_lt at (length words) ≡ true) × (length (word_at words at) ≡ 0)
 FitsForm fault.FirstWord words = topic_in words ≡ None
 FitsForm (fault.Count topic) words = (topic_in words ≡ Some topic) × (has_count topic (length words) ≡ false)
-FitsForm (fault.Answers topic) words = (topic_in words ≡ Some topic) × (has_answer_count topic (length words) ≡ false)
+FitsForm (fault.Answers topic) words = (topic_in words ≡ Some topic) × (has_answers topic words ≡ false)
 FitsForm (fault.Word at wanted) words = IsUnwanted wanted at words
 FitsForm (fault.Prefix at wanted) words = IsUnwanted wanted at words × (has_prefix (word_at words at) ≡ true)
 FitsForm (fault.Long at most) words = (option_map most_in (topic_in words) ≡ Some most) × (is_longer most (word_at words at) ≡ true)

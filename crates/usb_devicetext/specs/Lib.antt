@@ -16,3 +16,4 @@ pub mod FormFault
 pub mod DeviceText
 pub mod PlaceFault
 pub mod Reason
+pub mod Alone

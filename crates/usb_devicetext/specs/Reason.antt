@@ -11,8 +11,8 @@ use Rattle.usb_devicetext.specs.declared.desk.DeviceText.{DeviceText}
 use Rattle.usb_devicetext.specs.declared.complaint.Complaint.{Complaint}
 use Rattle.usb_devicetext.specs.declared.line.DeskLine.{DeskLine}
 use Rattle.usb_devicetext.specs.declared.line.DeskLine.TheVariants as line
-use Rattle.usb_devicetext.specs.declared.reason.Reason.{Reason}
-use Rattle.usb_devicetext.specs.declared.reason.Reason.TheVariants as reason
+use Rattle.usb_devicetext.specs.declared.reason.LineReason.{LineReason}
+use Rattle.usb_devicetext.specs.declared.reason.LineReason.TheVariants as reason
 use Rattle.usb_devicetext.specs.declared.sense.Saying.{Saying}
 use Rattle.usb_devicetext.specs.DeviceText.{desk_of, spelled_in, spelled_of}
 use Rattle.usb_devicetext.specs.Form.{word_at}
@@ -37,7 +37,7 @@ is_repeat (Some one) (Some other) = (one.dev == other.dev) && is_same one.subjec
 is_repeat one other = false
 
 -- when a reason fits a line, behind others and beside these devices; other lines are counted from 1
-abbrev pub Fits : Reason → List ℕ → List (List ℕ) → List DeviceSetup → Type 0
+abbrev pub Fits : LineReason → List ℕ → List (List ℕ) → List DeviceSetup → Type 0
 Fits reason.Ascii text earlier devices = is_ascii text ≡ false
 Fits reason.CarriageReturn text earlier devices = slice_get text (length text - 1) ≡ Some 13
 Fits reason.Tab text earlier devices = list_any (λ b. b == 9) text ≡ true
@@ -64,7 +64,7 @@ abbrev pub before : ℕ → List ℕ → List (List ℕ)
 before at text = take (at - 1) (lines_in text)
 
 -- a reason is why the line of this number isn't taken
-abbrev pub IsWhy : List ℕ → ℕ → Reason → Type 0
+abbrev pub IsWhy : List ℕ → ℕ → LineReason → Type 0
 IsWhy text at why = Fits why (word_at (lines_in text) (at - 1)) (before at text) (seen (spelled_of text) (before at text))
 
 -- a text is taken, or its first line that isn't has this number, and this is why
@@ -73,7 +73,7 @@ Complains text None = is_ok (desk_of text) ≡ true
 Complains text (Some c) = (desk_of text ≡ Err c.line) × IsWhy text c.line c.reason
 
 -- in words
-abbrev pub reason_text : Reason → List ℕ
+abbrev pub reason_text : LineReason → List ℕ
 reason_text reason.Ascii = codes "a byte isn't ASCII, as only a comment may have"
 reason_text reason.CarriageReturn = codes "the line ends in CR LF, and lines end in LF alone"
 reason_text reason.Tab = codes "a tab stands in the line, and words stand between single spaces"
@@ -83,7 +83,7 @@ reason_text (reason.Repeated at) = codes "line " ++ (decimal at ++ codes " says 
 reason_text reason.Refused = codes "the line can't stand here"
 
 -- the word that each is about, the first at 0; none where it is about the whole line
-abbrev pub reason_place : Reason → Option ℕ
+abbrev pub reason_place : LineReason → Option ℕ
 reason_place reason.Ascii = None
 reason_place reason.CarriageReturn = None
 reason_place reason.Tab = None

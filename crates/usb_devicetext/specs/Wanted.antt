@@ -4,24 +4,25 @@ use Rattle.std.specs.Option.{option_and_then}
 use Rattle.std.specs.Str.{bytes_eq}
 use Rattle.usb_scripttext.specs.Number.{address_of, bytes_of, device_of, u8_of, u32_of}
 use Rattle.usb_scripttext.specs.Prefix.{behind}
+use Rattle.usb_scripttext.specs.Repeats.{one_of}
 use Rattle.usb_devicetext.specs.declared.wanted.Wanted.{Wanted}
 use Rattle.usb_devicetext.specs.declared.wanted.Wanted.TheVariants as wanted
 use Rattle.usb_devicetext.specs.Statement.{whole_of}
 use Rattle.usb_devicetext.specs.Word.{any_of, index_of, speed_of, word_of}
 
--- the bytes of an answer that has some, however many
+-- the bytes of an answer that has some, however many, and however often it stands
 abbrev pub data_in : List ℕ → Option (List ℕ)
-data_in word = option_and_then bytes_of (behind (codes "d:") word)
+data_in word = option_and_then bytes_of (behind (codes "d:") (one_of word))
 
--- not ready, a stall, a broken transaction
+-- not ready, a stall, a broken transaction, however often it stands
 abbrev pub is_plain : List ℕ → Bool
-is_plain word = bytes_eq word (codes "n") || (bytes_eq word (codes "s") || bytes_eq word (codes "b"))
+is_plain word = bytes_eq (one_of word) (codes "n") || (bytes_eq (one_of word) (codes "s") || bytes_eq (one_of word) (codes "b"))
 
 abbrev pub is_read : List ℕ → Bool
 is_read word = is_plain word || is_some (data_in word)
 
 abbrev pub is_write : List ℕ → Bool
-is_write word = is_plain word || bytes_eq word (codes "a")
+is_write word = is_plain word || bytes_eq (one_of word) (codes "a")
 
 -- whether a word is what is wanted
 unfoldable pub is_wanted : Wanted → List ℕ → Bool

@@ -6,13 +6,12 @@ ghost use Rattle.usb_scripttext.specs.Results.{ReadsAs};
 ghost use Rattle.usb_scripttext.specs.Script.{each_of};
 ghost use Rattle.usb_scripttext.specs.Prefix.{behind};
 ghost use Rattle.usb_scripttext.specs.Words.{words_of};
-ghost use Rattle.usb_devicetext.specs.Answer.{answer_of, answers_of, data_of, reads, writes};
+ghost use Rattle.usb_devicetext.specs.Answer.{answer_of, answers_of, data_of, reads, without_stays, writes};
 
 use std::alloc::Global;
-use usb_model::limits::LONGEST_SCRIPT;
 use usb_model::{Bytes, Sequence};
 use usb_scripttext::number::bytes;
-use usb_scripttext::{Expected, LineFault, Problem, behind};
+use usb_scripttext::{Expected, LineFault, Problem, behind, copies};
 
 /// The most bytes of a control transfer beside its setup packet, as Linux has it (MAX_CTRL_BUFFER_LENGTH).
 pub const MOST_DATA: usize = 4096;
@@ -54,8 +53,19 @@ fn writes(kind: Option<u8>) -> bool
     }
 }
 
-/// The answers of some words, to requests of this type: 1 to 65,536.
-#[tactic(auto, unfolding(crate::specs::Answer::answers_of))]
+/// Some words without a `..` at their end: the last answer to a request stays anyway.
+#[tactic(auto, unfolding(crate::specs::Answer::without_stays))]
+fn without_stays<'a, 'b>(words: &'b [&'a str]) -> &'b [&'a str]
+    ensures { words_of result.now ≡ without_stays (words_of words.now) }
+{
+    match words {
+        [rest @ .., last] if *last == ".." => rest,
+        _ => words,
+    }
+}
+
+/// The answers of some words, each as often as it stands, to requests of this type: 1 to 65,536 in all.
+#[tactic(auto, unfolding(crate::specs::Answer::plain_answers_of))]
 pub(crate) fn answers(
     alloc: Global,
     kind: Option<u8>,
@@ -63,10 +73,13 @@ pub(crate) fn answers(
 ) -> Result<Sequence<ControlAnswer>, LineFault>
     ensures { ReadsAs result (answers_of kind (words_of words.now)) }
 {
-    if words.is_empty() || words.len() > LONGEST_SCRIPT {
+    let Some(words) = copies(alloc, without_stays(words))? else {
+        return Err(LineFault::Bad(Problem::Answers));
+    };
+    if words.is_empty() {
         return Err(LineFault::Bad(Problem::Answers));
     }
-    each_answer(alloc, kind, words)
+    each_answer(alloc, kind, words.as_slice())
 }
 
 /// The answer of each word.

@@ -9,7 +9,7 @@ ghost use Rattle.usb_devicetext.specs.Reason.{Complains, Fits, IsWhy, devices_be
 
 use crate::desk::{read_desk, read_spelled};
 use crate::draft::Draft;
-use crate::reason::{Reason, line_at};
+use crate::reason::{LineReason, line_at};
 use std::alloc::{AllocError, Global};
 use usb_device::ScriptedDevice;
 use usb_model::Sequence;
@@ -21,7 +21,7 @@ pub struct Complaint {
     /// The number of its first line that isn't taken, from 1.
     pub line: u64,
     /// Why that isn't.
-    pub reason: Reason,
+    pub reason: LineReason,
 }
 
 /// What is wrong with a text of devices; None where it is taken. An error where memory is refused.
@@ -39,7 +39,7 @@ pub fn complain(alloc: Global, text: &[u8]) -> Result<Option<Complaint>, AllocEr
 }
 
 /// Why the line of this number isn't taken.
-fn reason_at(alloc: Global, text: &[u8], line: u64) -> Result<Reason, AllocError>
+fn reason_at(alloc: Global, text: &[u8], line: u64) -> Result<LineReason, AllocError>
     ensures { IfOk result (λ why. IsWhy text.now line why) }
 {
     let lines: Vec<&[u8]> = text.split(|byte| *byte == b'\n').collect(alloc)?;
@@ -52,13 +52,18 @@ fn reason_at(alloc: Global, text: &[u8], line: u64) -> Result<Reason, AllocError
 }
 
 /// Why the line of this index isn't taken.
-fn reason_in(alloc: Global, text: &[u8], lines: &[&[u8]], at: usize) -> Result<Reason, AllocError>
+fn reason_in(
+    alloc: Global,
+    text: &[u8],
+    lines: &[&[u8]],
+    at: usize,
+) -> Result<LineReason, AllocError>
     requires { words_of lines.now ≡ lines_in text.now }
     ensures { IfOk result (λ why. Fits why (word_at (lines_in text.now) at) (take at (lines_in text.now)) (seen (spelled_of text.now) (take at (lines_in text.now)))) }
 {
     let earlier = front(lines, at);
     let devices = seen(alloc, text, earlier)?;
-    Reason::of(alloc, line_at(lines, at), earlier, devices.as_slice())
+    LineReason::of(alloc, line_at(lines, at), earlier, devices.as_slice())
 }
 
 /// The lines before an index.

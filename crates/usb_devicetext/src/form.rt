@@ -2,7 +2,7 @@
 
 ghost use Rattle.std.specs.Prelude.{◌≡◌};
 ghost use Rattle.usb_scripttext.specs.Words.{words_of};
-ghost use Rattle.usb_devicetext.specs.Form.{answer_in, form, form_text, has_count, of_endpoint, of_request, wanted_at, word_at};
+ghost use Rattle.usb_devicetext.specs.Form.{answer_in, form, form_text, has_count, of_endpoint, of_request, stays_at, wanted_at, word_at};
 
 use crate::topic::Topic;
 use crate::wanted::Wanted;
@@ -89,6 +89,16 @@ fn of_request(kind: Option<u8>) -> Wanted
     }
 }
 
+/// Whether the word at a place says that the answer before it stays: `..`, the last word, behind an answer. The form has so many places
+/// behind the first word.
+fn stays_at(places: usize, words: &[&str], at: usize) -> bool
+    ensures { result ≡ stays_at places (words_of words.now) at }
+{
+    at.saturating_sub(places) > 1
+        && at == words.len().saturating_sub(1)
+        && word_at(words, at) == ".."
+}
+
 impl Topic {
     /// What stands behind the first word, as far as each place has its own, in a line of so many words.
     #[tactic(auto, unfolding(crate::specs::Form::form))]
@@ -157,7 +167,11 @@ impl Topic {
             return None;
         }
         if at > form.len() {
-            return self.answer_in(words);
+            return if stays_at(form.len(), words, at) {
+                None
+            } else {
+                self.answer_in(words)
+            };
         }
         match form.get(at - 1) {
             Some(wanted) => Some(*wanted),

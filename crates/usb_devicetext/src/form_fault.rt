@@ -2,7 +2,7 @@
 
 ghost use Rattle.std.specs.Prelude.{◌≡◌, ◌<◌, IfOk, IfSome, None, Some, length};
 ghost use Rattle.usb_scripttext.specs.Words.{words_of};
-ghost use Rattle.usb_devicetext.specs.FormFault.{FitsForm, descriptor_text, form_fault_place, form_fault_text, has_answer_count, has_prefix, is_longer, most_in, topic_in};
+ghost use Rattle.usb_devicetext.specs.FormFault.{FitsForm, answers_behind, descriptor_text, form_fault_place, form_fault_text, has_answer_count, has_prefix, is_longer, most_in, topic_in};
 ghost use Rattle.usb_devicetext.specs.Form.{wanted_at, word_at};
 ghost use Rattle.usb_devicetext.specs.Wanted.{is_wanted};
 ghost use Rattle.usb_devicetext.specs.declared.topic.Topic.TheVariants as topic;
@@ -16,8 +16,8 @@ use std::alloc::{AllocError, Global};
 use std::fmt;
 use usb_descriptors::{DescFault, read_config};
 use usb_model::limits::{LARGEST_PACKET, LONGEST_SCRIPT};
-use usb_scripttext::LineFault;
 use usb_scripttext::number::bytes;
+use usb_scripttext::{LineFault, written_out};
 
 /// What is wrong with the words of a line. Words are counted from 0.
 #[derive(Clone, Copy, PartialEq, Eq, Debug)]
@@ -28,7 +28,7 @@ pub enum FormFault {
     FirstWord,
     /// The words of a line of this first word are too few or too many.
     Count(Topic),
-    /// A line of this first word has no answer, or more than 65,536.
+    /// A line of this first word has no answer, or more than 65,536, each counted as often as it stands.
     Answers(Topic),
     /// The word there isn't this, as it has to be.
     Word { at: usize, wanted: Wanted },
@@ -270,7 +270,7 @@ fn long(
     }
 }
 
-/// What is wrong with a string or a configuration descriptor whose words are of its form.
+/// What is wrong with a string, a configuration descriptor or the number of answers in a line whose words are of its form.
 fn beyond(alloc: Global, topic: Topic, words: &[&str]) -> Result<Option<FormFault>, AllocError>
     requires { topic_in (words_of words.now) ≡ Some topic }
     ensures { IfOk result (λ fault. IfSome fault (λ fault. FitsForm fault (words_of words.now))) }
@@ -278,7 +278,27 @@ fn beyond(alloc: Global, topic: Topic, words: &[&str]) -> Result<Option<FormFaul
     match topic {
         Topic::Text => text(alloc, words),
         Topic::Device => descriptor(alloc, words),
+        Topic::Script => too_many(alloc, topic, words, 3),
+        Topic::Control => too_many(alloc, topic, words, 6),
         _ => Ok(None),
+    }
+}
+
+/// That the answers behind so many words are too many, when each is written out as often as it stands.
+fn too_many(
+    alloc: Global,
+    topic: Topic,
+    words: &[&str],
+    front: usize,
+) -> Result<Option<FormFault>, AllocError>
+    requires topic { topic_in (words_of words.now) ≡ Some topic }
+    requires front { answers_behind topic ≡ Some front }
+    ensures { IfOk result (λ fault. IfSome fault (λ fault. FitsForm fault (words_of words.now))) }
+{
+    let answers = words.get(front..).unwrap_or(&[]);
+    match written_out(alloc, answers)? {
+        Some(_) => Ok(None),
+        None => Ok(Some(FormFault::Answers(topic))),
     }
 }
 

@@ -15,6 +15,7 @@
 //! - `wanted.rt`, `form.rt`: what a word has to be; the words of a line by its first one
 //! - `form_fault.rt`, `place_fault.rt`, `reason.rt`, `complaint.rt`: what is wrong with the words of a line by themselves, and beside
 //!   the devices; why a line isn't taken, in a sentence; which line that is
+//! - `alone.rt`: what is wrong with a line by itself
 //! - `packet.rt`, `control.rt`: setup packets, and what a host has to hold for one; what a device answers to it
 //! - specs/ by the same names; DeviceText has the whole text
 //!
@@ -25,6 +26,8 @@
 //!   then asked for the first that can't mean anything (`applies`, `is_said`). Want of memory leaves it open
 //! - `complain`: of a text that isn't taken the number of that line, and a reason that fits it (`Fits`): not that it is the only one,
 //!   nor that it is more than "the line can't stand here"
+//! - `line_complaint`: of a line that says something of a device, as `ids`, and isn't taken, a reason that fits it by itself (`FitsAlone`);
+//!   None of any other
 //! - `DeskDevice::reply`: of the first answers that a request fits the one of its turn, the last for ever; else what the
 //!   descriptors say of a standard request; any other stalls
 //! - `DeskDevice::count`: the answers that a request fits were asked once more, and nothing else changed
@@ -34,6 +37,7 @@
 //! whoever serves packets to do.
 #![tactic(auto)]
 
+mod alone;
 mod answer;
 mod complaint;
 mod control;
@@ -53,6 +57,7 @@ mod topic;
 mod wanted;
 mod word;
 
+pub use alone::line_complaint;
 pub use answer::{ControlAnswer, MOST_DATA};
 pub use complaint::{Complaint, complain};
 pub use control::ControlReply;
@@ -62,7 +67,7 @@ pub use form_fault::FormFault;
 pub use line::DeskLine;
 pub use packet::{Needs, SetupPacket};
 pub use place_fault::PlaceFault;
-pub use reason::Reason;
+pub use reason::LineReason;
 pub use sense::{Saying, Subject};
 pub use statement::{
     Awaited, Class, Control, Departure, DeviceGate, Ids, Pattern, Statement, Text,

@@ -18,7 +18,7 @@ use usb_scripttext::words::ascii;
 
 /// Why a line of a text isn't taken.
 #[derive(Clone, Copy, PartialEq, Eq, Debug)]
-pub enum Reason {
+pub enum LineReason {
     /// A byte is above 127.
     Ascii,
     /// It ends with a carriage return.
@@ -36,39 +36,39 @@ pub enum Reason {
 }
 
 /// The reason, in a sentence.
-impl fmt::Display for Reason {
+impl fmt::Display for LineReason {
     ghost output = { λ x. Some (reason_text x) };
 
     fn fmt<W: fmt::Write>(&self, f: &mut fmt::Formatter<W>) -> fmt::Result {
         match self {
-            Reason::Ascii => f.write_str("a byte isn't ASCII, as only a comment may have"),
-            Reason::CarriageReturn => {
+            LineReason::Ascii => f.write_str("a byte isn't ASCII, as only a comment may have"),
+            LineReason::CarriageReturn => {
                 f.write_str("the line ends in CR LF, and lines end in LF alone")
             }
-            Reason::Tab => {
+            LineReason::Tab => {
                 f.write_str("a tab stands in the line, and words stand between single spaces")
             }
-            Reason::Form(why) => write!(f, "{why}"),
-            Reason::Place(why) => write!(f, "{why}"),
-            Reason::Repeated(at) => write!(f, "line {at} says that of the device already"),
-            Reason::Refused => f.write_str("the line can't stand here"),
+            LineReason::Form(why) => write!(f, "{why}"),
+            LineReason::Place(why) => write!(f, "{why}"),
+            LineReason::Repeated(at) => write!(f, "line {at} says that of the device already"),
+            LineReason::Refused => f.write_str("the line can't stand here"),
         }
     }
 }
 
-impl Reason {
+impl LineReason {
     /// The word that it is about, from 0 on; None where it is about the whole line.
     pub fn place(&self) -> Option<usize>
         ensures { result ≡ reason_place self.now }
     {
         match self {
-            Reason::Form(why) => why.place(),
-            Reason::Place(why) => Some(why.place()),
-            Reason::Ascii
-            | Reason::CarriageReturn
-            | Reason::Tab
-            | Reason::Repeated(_)
-            | Reason::Refused => None,
+            LineReason::Form(why) => why.place(),
+            LineReason::Place(why) => Some(why.place()),
+            LineReason::Ascii
+            | LineReason::CarriageReturn
+            | LineReason::Tab
+            | LineReason::Repeated(_)
+            | LineReason::Refused => None,
         }
     }
 
@@ -78,17 +78,17 @@ impl Reason {
         line: &[u8],
         earlier: &[&[u8]],
         devices: &[ScriptedDevice],
-    ) -> Result<Reason, AllocError>
+    ) -> Result<LineReason, AllocError>
         ensures { IfOk result (λ why. Fits why line.now (words_of earlier.now) devices.now) }
     {
         let Some(text) = ascii(line) else {
-            return Ok(Reason::Ascii);
+            return Ok(LineReason::Ascii);
         };
         if ends_with_return(line) {
-            return Ok(Reason::CarriageReturn);
+            return Ok(LineReason::CarriageReturn);
         }
         if has_tab(line) && !line.starts_with(b"string ") {
-            return Ok(Reason::Tab);
+            return Ok(LineReason::Tab);
         }
         of_text(alloc, text, earlier, devices)
     }
@@ -117,7 +117,7 @@ fn of_text(
     text: &str,
     earlier: &[&[u8]],
     devices: &[ScriptedDevice],
-) -> Result<Reason, AllocError>
+) -> Result<LineReason, AllocError>
     ensures { IfOk result (λ why. Fits why text.now (words_of earlier.now) devices.now) }
 {
     let words: Vec<&str> = text.split(' ').collect(alloc)?;
@@ -131,19 +131,19 @@ fn of_words(
     words: &[&str],
     earlier: &[&[u8]],
     devices: &[ScriptedDevice],
-) -> Result<Reason, AllocError>
+) -> Result<LineReason, AllocError>
     requires { words_of words.now ≡ words_in text.now }
     ensures { IfOk result (λ why. Fits why text.now (words_of earlier.now) devices.now) }
 {
     if let Some(why) = FormFault::of(alloc, words)? {
-        return Ok(Reason::Form(why));
+        return Ok(LineReason::Form(why));
     }
     if let Some(why) = PlaceFault::of(devices, words) {
-        return Ok(Reason::Place(why));
+        return Ok(LineReason::Place(why));
     }
     match repeated(alloc, text.as_bytes(), earlier)? {
-        Some(at) => Ok(Reason::Repeated(at)),
-        None => Ok(Reason::Refused),
+        Some(at) => Ok(LineReason::Repeated(at)),
+        None => Ok(LineReason::Refused),
     }
 }
 

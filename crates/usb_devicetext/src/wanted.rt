@@ -7,8 +7,8 @@ use crate::statement::whole;
 use crate::word::{Speed, any_byte, any_word, index, word};
 use std::alloc::{AllocError, Global};
 use usb_model::Bytes;
-use usb_scripttext::behind;
 use usb_scripttext::number::{address, bytes, decimal_u32, device, interface};
+use usb_scripttext::{behind, with_times};
 
 /// What a word of a line has to be.
 #[derive(Clone, Copy, PartialEq, Eq, Debug)]
@@ -49,20 +49,22 @@ pub enum Wanted {
     PlainAnswer,
 }
 
-/// The bytes of an answer that has some; None where it has none.
+/// The bytes of an answer that has some, however often it stands; None where it has none.
 pub(crate) fn data_in(alloc: Global, word: &str) -> Result<Option<Bytes>, AllocError>
     ensures { IfOk result (λ bytes. bytes ≡ data_in word.now) }
 {
+    let (word, _) = with_times(word);
     match behind("d:", word) {
         Some(digits) => bytes(alloc, digits),
         None => Ok(None),
     }
 }
 
-/// Whether a word says not ready, a stall or a broken transaction.
+/// Whether a word says not ready, a stall or a broken transaction, however often it stands.
 fn is_plain(word: &str) -> bool
     ensures { result ≡ is_plain word.now }
 {
+    let (word, _) = with_times(word);
     matches!(word, "n" | "s" | "b")
 }
 
@@ -81,7 +83,8 @@ fn is_read(alloc: Global, word: &str) -> Result<bool, AllocError>
 fn is_write(word: &str) -> bool
     ensures { result ≡ is_write word.now }
 {
-    is_plain(word) || word == "a"
+    let (one, _) = with_times(word);
+    is_plain(word) || one == "a"
 }
 
 impl Wanted {

@@ -85,7 +85,7 @@ impl<L: Naming, P, D: Device, J: Recorder> Closing<L, P, D, J> {
         take_all(&log, &mut keeper, receipts);
         log.check(&mut keeper);
         Closed {
-            journal: Whole { keeper },
+            journal: WholeJournal { keeper },
             recorder,
             places,
             total,
@@ -96,11 +96,11 @@ impl<L: Naming, P, D: Device, J: Recorder> Closing<L, P, D, J> {
 
 /// A journal that has ended. It has no bytes; contracts see its places.
 #[derive(Drop)]
-pub struct Whole {
+pub struct WholeJournal {
     pub(crate) keeper: Keeper<PlaceImage>,
 }
 
-impl Model for Whole {
+impl Model for WholeJournal {
     ghost use Rattle.std.specs.Prelude.{List};
     ghost use Rattle.usb_journal.specs.declared.place.Place.{Place};
 
@@ -113,7 +113,7 @@ impl Model for Whole {
 #[derive(Drop)]
 pub struct Closed<L: Naming, P, D: Device, J> {
     /// The journal, for contracts alone.
-    pub journal: Whole,
+    pub journal: WholeJournal,
     /// What was kept of it.
     pub recorder: J,
     /// How many places it has.

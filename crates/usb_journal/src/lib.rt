@@ -85,7 +85,7 @@ mod ticks;
 mod timer;
 
 pub use book::JournaledCore;
-pub use closed::{Closed, Closing, Whole};
+pub use closed::{Closed, Closing, WholeJournal};
 pub use events::Events;
 pub use journal::{Draft, Journal};
 pub use naming::Naming;

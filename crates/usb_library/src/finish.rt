@@ -20,13 +20,13 @@ use std::sync::Mutex;
 use std::sync::ledger::Share;
 use usb_core::{Core, Setup};
 use usb_device::Device;
-use usb_journal::{Closed, Closing, Journal, Naming, Place, Receipt, Recorder, Whole};
+use usb_journal::{Closed, Closing, Journal, Naming, Place, Receipt, Recorder, WholeJournal};
 
 /// What a library leaves.
 #[derive(Drop)]
 pub struct Ended<L: Naming, P, D: Device, J> {
     /// The journal, for contracts alone: it has no bytes.
-    pub journal: Whole,
+    pub journal: WholeJournal,
     /// What was kept of it.
     pub recorder: J,
     /// How many places it has.
@@ -45,7 +45,7 @@ pub struct Ended<L: Naming, P, D: Device, J> {
 
 /// Callers are missing. The library, and all that was brought, is handed back (`into_library`).
 #[derive(Drop)]
-pub struct Missing<L: Naming, P, D: Device, J: Recorder> {
+pub struct MissingCallers<L: Naming, P, D: Device, J: Recorder> {
     guarded: Guarded<L, P, D, J>,
     watchers: Watchers,
     met: Met,
@@ -61,12 +61,12 @@ impl<L: Naming, P: Drop, D: Device, J: Recorder> Library<L, P, D, J> {
     /// Ends the library, once all its callers are back: the journal is the definitions' run of its steps, and at each receipt's
     /// place it has what the receipt says; no two receipts have one place; it has as many places as the callers made steps, and each
     /// caller's are those of its number, which no other has; it began with what each caller had seen. The core shows the world where it
-    /// ends. Missing where fewer callers come than were made. It waits for nothing.
+    /// ends. `MissingCallers` where fewer callers come than were made. It waits for nothing.
     pub fn finish(
         self,
         callers: Vec<Caller<L>>,
         receipts: Vec<Receipt<L>>,
-    ) -> Result<Ended<L, P, D, J>, Missing<L, P, D, J>>
+    ) -> Result<Ended<L, P, D, J>, MissingCallers<L, P, D, J>>
         requires parts { L.parts ≡ 1025 }
         ensures found { IfOk result (λ e. All (λ r. slice_get e.journal r.place ≡ Some r.entry) receipts.items) }
         ensures apart { IfOk result (λ _. (p : ℕ) → count_by (λ r. r.place == p) receipts.items ≤ 1) }
@@ -88,7 +88,7 @@ impl<L: Naming, P: Drop, D: Device, J: Recorder> Library<L, P, D, J> {
         let guarded = guarded.into_inner();
         let made = guarded.callers.made();
         if callers.len() < made as usize {
-            return Err(Missing {
+            return Err(MissingCallers {
                 guarded,
                 watchers,
                 met,
@@ -154,12 +154,12 @@ impl<L: Naming, P, D: Device> Ended<L, P, D, Journal> {
     }
 }
 
-impl<L: Naming, P: Drop, D: Device, J: Recorder> Missing<L, P, D, J> {
+impl<L: Naming, P: Drop, D: Device, J: Recorder> MissingCallers<L, P, D, J> {
     /// The library, which goes on, with the callers and the receipts that were brought.
     pub fn into_library(self) -> (Library<L, P, D, J>, Vec<Caller<L>>, Vec<Receipt<L>>)
         ensures { (result.1 ≡ self.callers) × (result.2 ≡ self.receipts) }
     {
-        let Missing {
+        let MissingCallers {
             guarded,
             watchers,
             met,

@@ -28,7 +28,7 @@
 //!   together (`counted`); its entries are the definitions' run of its steps, from the devices that the library was
 //!   made of (`run`), and the core that is handed back shows the world where that ends (`core`); what was kept is that
 //!   journal (`kept`); each caller's places are those of its number, which no other has, and the journal began with all
-//!   that the caller had seen (`own`, `numbers`). Missing exactly where fewer callers come than were made, with the library
+//!   that the caller had seen (`own`, `numbers`). `MissingCallers` exactly where fewer callers come than were made, with the library
 //!   and all that was brought
 //! - `open` to `unplug`, `submit`, `take`, `stop`, `again`, `again_with`: the call makes a step (`Makes`): its
 //!   receipt's place is above the caller's earlier ones; it has the step that was asked for and this caller's number,
@@ -92,7 +92,7 @@ mod wakes;
 pub use answered::{Answered, Submitted};
 pub use caller::Caller;
 pub use callers::CALLERS;
-pub use finish::{Ended, Missing};
+pub use finish::{Ended, MissingCallers};
 pub use library::Library;
 pub use opening::Opening;
 pub use wakes::WorkerPart;

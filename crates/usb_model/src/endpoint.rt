@@ -6,7 +6,7 @@ ghost use Rattle.usb_model.specs.Endpoint.{fresh};
 use crate::errand::Errand;
 use crate::item::Item;
 use crate::name::{DeviceNo, EpAddr};
-use crate::response::Script;
+use crate::script_left::ScriptLeft;
 use crate::sequence::{Bytes, Sequence};
 use crate::setup::Setup;
 use std::alloc::{AllocError, Global};
@@ -28,7 +28,7 @@ pub struct Endpoint {
     /// The transfers, in order of submission.
     pub line: Sequence<Item>,
     /// What is left of the device's script.
-    pub script_left: Script,
+    pub script_left: ScriptLeft,
     /// Whether the device's endpoint is halted.
     pub device_halted: bool,
     /// The packets that the device took.
@@ -52,7 +52,7 @@ impl Endpoint {
     {
         Ok(Endpoint {
             line: Sequence::new(alloc),
-            script_left: setup.script_of(alloc, dev, ep)?,
+            script_left: ScriptLeft::all_of(setup.script_of(alloc, dev, ep)?),
             device_halted: false,
             packets_received: Sequence::new(alloc),
             state: EndpointState::Running,

@@ -5,8 +5,7 @@ ghost use Rattle.usb_model.specs.Endpoint.{new_item, is_waiting, is_blank, is_tr
 ghost use Rattle.usb_model.specs.Endpoint.Deliver.{is_withdrawn};
 
 use crate::request::Request;
-use crate::response::Script;
-use crate::sequence::Sequence;
+use crate::share::Share;
 use std::alloc::Global;
 
 /// Where a transfer stands in its line.
@@ -39,7 +38,7 @@ pub struct Item {
     /// How often it was submitted before.
     pub round: u64,
     /// The answers of the device that it took.
-    pub share: Script,
+    pub share: Share,
     /// Where it stands.
     pub state: ItemState,
     /// The first ask that it end, if there was one.
@@ -55,7 +54,7 @@ impl Item {
             n,
             request,
             round,
-            share: Sequence::new(alloc),
+            share: Share::new(alloc),
             state: ItemState::Waiting,
             ask: None,
         }

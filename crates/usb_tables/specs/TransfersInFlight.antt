@@ -3,7 +3,7 @@ use Rattle.std.specs.Prelude.{ℕ, ◌==◌, Bool, true, false, List, [], ◌∷
 use Rattle.usb_tables.specs.declared.ended.Mark.{Mark}
 use Rattle.usb_tables.specs.declared.transfer.Transfer.{Transfer}
 use Rattle.usb_tables.specs.ByEndpoint.{lane_at}
-use Rattle.usb_tables.specs.declared.ending.Ended.{Ended}
+use Rattle.usb_tables.specs.declared.ending.EndedTransfer.{EndedTransfer}
 use Rattle.usb_tables.specs.declared.ending.Ending.{Ending}
 
 -- a transfer that ended, and what came of it
@@ -68,5 +68,5 @@ module _ {P : Type 0} where
   mark_in (Some t) = record { blank = false; asked = is_some t.ask }
 
   -- a transfer that is handed out with its ending
-  abbrev pub ended_of : Ended P → EndedOf (Transfer P)
+  abbrev pub ended_of : EndedTransfer P → EndedOf (Transfer P)
   ended_of x = record { transfer = x.transfer; ending = x.ending }

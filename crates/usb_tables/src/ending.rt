@@ -14,7 +14,7 @@ pub struct Ending {
 
 /// A transfer that ended, with what came of it.
 #[derive(Drop)]
-pub struct Ended<P> {
+pub struct EndedTransfer<P> {
     /// The transfer.
     pub transfer: Transfer<P>,
     /// What came of it.

@@ -8,7 +8,7 @@ ghost use Rattle.std.specs.VecDeque.{deque_capacity};
 ghost use Rattle.usb_tables.specs.Store.{count};
 ghost use Rattle.usb_tables.specs.TransfersInFlight.{blanked_at, ended_of, is_number, item_at, left_at, line_at, mark_in, with_item, with_last};
 
-use crate::ending::{Ended, Ending, Waiting};
+use crate::ending::{EndedTransfer, Ending, Waiting};
 use crate::lanes::EndpointQueues;
 use crate::line::MOST;
 use crate::{Mark, Store, Transfer};
@@ -213,7 +213,7 @@ impl<P> TransfersInFlight<P> {
     }
 
     /// Takes the transfer that ended first of those that wait; None where none waits. Its key is the next one.
-    pub fn take(&mut self) -> Option<Ended<P>>
+    pub fn take(&mut self) -> Option<EndedTransfer<P>>
         ensures value { option_map ended_of result ≡ slice_get self.old.ended 0 }
         ensures lines { self.new.lines ≡ self.old.lines }
         ensures keys { self.new.keys ≡ self.old.keys }
@@ -222,7 +222,7 @@ impl<P> TransfersInFlight<P> {
     {
         let first = self.ended.pop_front()?;
         let transfer = self.store.remove(first.key)?;
-        Some(Ended {
+        Some(EndedTransfer {
             transfer,
             ending: first.ending,
         })

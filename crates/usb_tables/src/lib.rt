@@ -143,7 +143,7 @@ mod trbs;
 pub use callers::HandleStates;
 pub use claims::Claims;
 pub use ended::{Mark, Settlement, settle};
-pub use ending::{Ended, Ending};
+pub use ending::{EndedTransfer, Ending};
 pub use flights::TransfersInFlight;
 pub use held::HeldEndpoint;
 pub use order::{ask, next_order};

@@ -16,14 +16,14 @@ use std::sync::Wait;
 use std::thread::Threads;
 use usb_core::{Callback, Core, Setup};
 use usb_device::Device;
-use usb_journal::{Naming, Recorder, Whole};
+use usb_journal::{Naming, Recorder, WholeJournal};
 use usb_library::{Caller, Library, Opening};
 
 /// What a library that lived leaves, and its drivers.
 #[derive(Drop)]
 pub struct Lived<C, D: Device, J, X> {
     /// The journal, for contracts alone: it has no bytes.
-    pub journal: Whole,
+    pub journal: WholeJournal,
     /// What was kept of the journal.
     pub kept: J,
     /// How many places the journal has.

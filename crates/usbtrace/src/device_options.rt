@@ -1,10 +1,11 @@
 //! The options of `devices` by which one device is meant, and a file that says what the capture lacks of it.
 
+use crate::beside::{read_beside, read_file};
 use std::alloc::{AllocError, Global};
+use std::fmt;
 use std::io::Write;
 use std::rt::Files;
-use std::{fmt, fs};
-use trace_io::{Fault, read_whole};
+use trace_io::Fault;
 use trace_recorded::{
     DescribedDevice, DescribedFault, DeviceChoice, DeviceIds, DeviceTexts,
     described_by_descriptors, described_by_umockdev,
@@ -15,9 +16,6 @@ const FAILED: u8 = 1;
 
 /// The status of bad words.
 const BAD_WORDS: u8 = 2;
-
-/// The name of Linux's file of a device's descriptors: beside one of this name its texts stand too.
-const DESCRIPTORS: &str = "descriptors";
 
 /// The options, each with its word.
 #[derive(Clone, Copy)]
@@ -222,13 +220,7 @@ fn ids_in(word: &str) -> Option<DeviceIds> {
     })
 }
 
-/// All bytes of a file.
-fn read_file<R: Files>(rt: &R, alloc: Global, file: &str) -> Result<Vec<u8>, Fault> {
-    let mut input = fs::open(rt, file)?;
-    read_whole(alloc, &mut input)
-}
-
-/// The same of a file that has to be there.
+/// All bytes of a file that has to be there.
 fn read_named<'a, R: Files>(
     rt: &R,
     alloc: Global,
@@ -249,39 +241,6 @@ fn told_name(alloc: Global, file: &str) -> Result<String, AllocError> {
         name.push(if is_plain { letter } else { '?' })?;
     }
     Ok(name)
-}
-
-/// Bytes without line feeds at their ends.
-fn without_ends(text: &[u8]) -> &[u8] {
-    let mut rest = text;
-    for _ in 0..text.len() {
-        match rest {
-            [b'\n', behind @ ..] => rest = behind,
-            [front @ .., b'\n'] => rest = front,
-            _ => return rest,
-        }
-    }
-    rest
-}
-
-/// What a file beside that of the descriptors says; nothing where it isn't there.
-fn read_beside<R: Files>(
-    rt: &R,
-    alloc: Global,
-    file: &str,
-    name: &str,
-) -> Result<Vec<u8>, AllocError> {
-    let Some(folder) = file.strip_suffix(DESCRIPTORS) else {
-        return Ok(Vec::new(alloc));
-    };
-    if !folder.is_empty() && !folder.ends_with('/') {
-        return Ok(Vec::new(alloc));
-    }
-    let beside = format!(in alloc; "{folder}{name}")?;
-    match read_file(rt, alloc, beside.as_str()) {
-        Ok(text) => Ok(Vec::from_slice(alloc, without_ends(text.as_slice()))?),
-        Err(_) => Ok(Vec::new(alloc)),
-    }
 }
 
 /// The device of Linux's file of its descriptors, with what stands beside it.

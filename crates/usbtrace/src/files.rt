@@ -1,12 +1,24 @@
 //! The words of a command line, and the files that it names.
 
+use crate::colours::ColourOption;
 use crate::device_options::DeviceOptions;
+use crate::printed::PrintedForm;
+use crate::printed_line::PrintedBy;
 use std::alloc::{AllocError, Global};
 
 /// The option of `test` that has what came of the tests written into a file.
 const JUNIT: &str = "--junit";
 
-/// Whether what came of tests is to be written into a file.
+/// The option of `test` that has a page written of each test that fails, into a folder.
+const HTML: &str = "--html";
+
+/// The option of `test` that has the lines of tests rewritten.
+const UPDATE: &str = "--update";
+
+/// The option that says when colours are wanted.
+const COLOUR: &str = "--color";
+
+/// Whether what came of tests is to be written into a file, or into a folder.
 #[derive(Clone, Copy)]
 pub enum JunitOption<'a> {
     /// It isn't.
@@ -45,6 +57,16 @@ pub struct CommandLine<'a> {
     pub devices: DeviceOptions<'a>,
     /// Into which file it is written what came of tests.
     pub junit: JunitOption<'a>,
+    /// Into which folder a page is written of each test that fails.
+    pub html: JunitOption<'a>,
+    /// Whether the lines of tests that differ are rewritten.
+    pub is_update: bool,
+    /// Whether it is printed as objects of JSON.
+    pub is_json: bool,
+    /// When it is printed with colours.
+    pub colours: ColourOption,
+    /// Whether it is printed on a terminal that has colours.
+    pub is_on_terminal: bool,
 }
 
 /// Whether a word names a file: it has a dot or a slash in it, and is no option.
@@ -57,12 +79,17 @@ fn ask_for_judged(words: &[&str]) -> bool {
     matches!(words, [_, "run" | "left" | "test", ..])
 }
 
+/// Whether words ask for what may be printed as JSON, and with colours.
+fn ask_for_forms(words: &[&str]) -> bool {
+    matches!(words, [_, "run" | "explain" | "check" | "test", ..])
+}
+
 /// Whether a word is an option with a word behind it, of what the words before ask for.
 fn takes_a_word(words: &[&str], text: &str) -> bool {
     match words {
         [_, "devices", ..] => DeviceOptions::is_option(text),
-        [_, "test", ..] => text == JUNIT,
-        _ => false,
+        [_, "test", ..] if text == JUNIT || text == HTML => true,
+        _ => text == COLOUR && ask_for_forms(words),
     }
 }
 
@@ -75,15 +102,21 @@ impl<'a> CommandLine<'a> {
             is_lenient: false,
             devices: DeviceOptions::new(),
             junit: JunitOption::Unasked,
+            html: JunitOption::Unasked,
+            is_update: false,
+            is_json: false,
+            colours: ColourOption::Unsaid,
+            is_on_terminal: false,
         }
     }
 
     /// Puts an option with the word behind it, if there is one.
     fn put_option(&mut self, option: &'a str, word: Option<&'a str>) {
-        if option == JUNIT {
-            self.junit = self.junit.with(word);
-        } else {
-            self.devices.put(option, word);
+        match option {
+            JUNIT => self.junit = self.junit.with(word),
+            HTML => self.html = self.html.with(word),
+            COLOUR => self.colours = self.colours.with(word),
+            _ => self.devices.put(option, word),
         }
     }
 
@@ -93,15 +126,39 @@ impl<'a> CommandLine<'a> {
             self.files.push(text)?;
         } else if text == "--lenient" && ask_for_judged(self.words.as_slice()) {
             self.is_lenient = true;
+        } else if text == UPDATE && matches!(self.words.as_slice(), [_, "test", ..]) {
+            self.is_update = true;
+        } else if text == "--json" && ask_for_forms(self.words.as_slice()) {
+            self.is_json = true;
         } else {
             self.words.push(text)?;
         }
         Ok(())
     }
+
+    /// In which form it is printed.
+    pub fn form(&self) -> PrintedForm {
+        if self.is_json {
+            return PrintedForm::Json;
+        }
+        if ask_for_forms(self.words.as_slice()) && self.colours.is_on(self.is_on_terminal) {
+            return PrintedForm::Coloured;
+        }
+        PrintedForm::Lines
+    }
+
+    /// By whom it is printed, where that isn't in lines as they are.
+    pub fn printed_by(&self) -> PrintedBy {
+        match self.words.as_slice() {
+            [_, "test", ..] if self.files.is_empty() => PrintedBy::Test,
+            [_, "test", ..] => PrintedBy::Tests,
+            _ => PrintedBy::Run,
+        }
+    }
 }
 
-/// Tells words and files apart, `--lenient` behind a word for a run that is judged, and the options of `devices` and `test` with the words behind
-/// them. The first word is the program's name, whatever is in it.
+/// Tells words and files apart, `--lenient` behind a word for a run that is judged, `--json` behind one that prints lines, and the options with
+/// the words behind them. The first word is the program's name, whatever is in it.
 pub fn command_line<'a>(alloc: Global, texts: &[&'a str]) -> Result<CommandLine<'a>, AllocError> {
     let mut line = CommandLine::new(alloc);
     let mut option = None;

@@ -3,6 +3,7 @@
 ghost use Rattle.std.specs.Prelude.{◌≡◌, is_some};
 ghost use Rattle.usbtrace.specs.Status.{half_status};
 
+use crate::input_test::test_input;
 use crate::statuses::{FAILED, half_status, tell_failure};
 use std::alloc::Global;
 use std::io::{Read, Write};
@@ -18,11 +19,11 @@ use usb_scripttext::TextFault;
 /// The line with which the text of a capture begins that ends amid a record.
 const CUT_LINE: &[u8] = b"# the capture ends amid a record\n";
 
-/// Whether a task is done over an input that is read first, to tell what is missing of it.
+/// Whether a task is done over an input that is read first, to tell what is missing of it, or more of a test.
 fn may_lack(task: &Task) -> bool {
     match task {
         Task::Draw { from, to } | Task::Page { from, to } => *from > 1 || *to < u64::MAX,
-        Task::Describe | Task::Devices(_) => true,
+        Task::Describe | Task::Devices(_) | Task::Test => true,
         _ => false,
     }
 }
@@ -200,6 +201,7 @@ fn perform_whole<T: Threads + Wait + Sync, W: Write, E: Write>(
             draw(rt, alloc, words, text, (*from, *to), out, err)
         }
         Task::Describe => describe(rt, alloc, words, text, out, err),
+        Task::Test => Ok(test_input(rt, alloc, words, text, out, err)?),
         _ => Ok(record(rt, alloc, words, text, out, err)),
     }
 }

@@ -30,13 +30,20 @@ pub struct TestCases {
 
 /// A text of XML that is written piece by piece.
 #[derive(Drop)]
-struct Xml {
-    bytes: Vec<u8>,
+pub struct Xml {
+    pub bytes: Vec<u8>,
 }
 
 impl Xml {
+    /// No text.
+    pub fn new(alloc: Global) -> Xml {
+        Xml {
+            bytes: Vec::new(alloc),
+        }
+    }
+
     /// Puts a text behind it as it is.
-    fn put(&mut self, text: &str) -> Result<(), AllocError> {
+    pub fn put(&mut self, text: &str) -> Result<(), AllocError> {
         self.bytes.extend_from_slice(text.as_bytes())
     }
 
@@ -56,7 +63,7 @@ impl Xml {
     }
 
     /// Puts bytes that may be no text behind it.
-    fn put_bytes(&mut self, bytes: &[u8]) -> Result<(), AllocError> {
+    pub fn put_bytes(&mut self, bytes: &[u8]) -> Result<(), AllocError> {
         for byte in bytes {
             self.put_byte(*byte)?;
         }
@@ -64,7 +71,7 @@ impl Xml {
     }
 
     /// Puts a name behind it, of which all letters are kept.
-    fn put_name(&mut self, name: &str) -> Result<(), AllocError> {
+    pub fn put_name(&mut self, name: &str) -> Result<(), AllocError> {
         for byte in name.as_bytes() {
             match *byte {
                 0x80.. => self.bytes.push(*byte)?,
@@ -73,6 +80,11 @@ impl Xml {
             }
         }
         Ok(())
+    }
+
+    /// Puts a document behind it as it is.
+    pub fn put_document(&mut self, document: &[u8]) -> Result<(), AllocError> {
+        self.bytes.extend_from_slice(document)
     }
 
     /// Puts behind it what is told of a test, as an element of this name; its first line is its message.
@@ -135,9 +147,7 @@ impl TestCases {
     /// Their text.
     pub fn text(&self) -> Result<Vec<u8>, AllocError> {
         let alloc = self.alloc;
-        let mut xml = Xml {
-            bytes: Vec::new(alloc),
-        };
+        let mut xml = Xml::new(alloc);
         let (all, failures, errors) = (
             self.cases.len(),
             self.count(CaseEnd::Failure),

@@ -2,9 +2,14 @@
 
 ghost use Rattle.std.specs.Prelude.{◌≡◌};
 
+use crate::colours::ColourOption;
 use crate::device_options::DeviceOptions;
+use crate::device_strings::print_device;
 use crate::files::{CommandLine, JunitOption};
-use crate::halves::{perform_task, record_one};
+use crate::halves::record_one;
+use crate::inserted::folder_of;
+use crate::printed::{Printed, PrintedForm};
+use crate::scenarios::perform_over;
 use crate::statuses::{BAD_WORDS, FAILED, status_of, tell_failure};
 use crate::testing::run_tests;
 use std::alloc::Global;
@@ -43,11 +48,12 @@ fn print_version<W: Write, E: Write>(out: &mut W, err: &mut E) -> u8 {
     }
 }
 
-/// Runs the program on its words and an input.
-fn run_input<T: Threads + Wait + Sync, R: Read, W: Write, E: Write>(
+/// Runs the program on its words and an input. Files that a scenario names are looked for in this folder.
+fn run_input<T: Threads + Wait + Sync + Files, R: Read, W: Write, E: Write>(
     rt: &T,
     alloc: Global,
     line: &CommandLine<'_>,
+    folder: Option<&str>,
     input: &mut R,
     out: &mut W,
     err: &mut E,
@@ -55,7 +61,7 @@ fn run_input<T: Threads + Wait + Sync, R: Read, W: Write, E: Write>(
     let words = line.words.as_slice();
     let asked: Option<Task> = read_words(alloc, words).ok();
     let status = match asked {
-        Some(task) => perform_task(rt, alloc, words, &task, input, out, err),
+        Some(task) => perform_over(rt, alloc, words, &task, folder, input, out, err),
         None => trace(rt, alloc, words, input, out, err),
     };
     status_of(status, line.is_lenient)
@@ -71,13 +77,17 @@ fn run_file<T: Threads + Wait + Sync + Files, R: Read, W: Write, E: Write>(
     out: &mut W,
     err: &mut E,
 ) -> u8 {
-    if read_words(alloc, line.words.as_slice()).is_err() {
-        return run_input(rt, alloc, line, input, out, err);
+    let words = line.words.as_slice();
+    let Ok(task) = read_words(alloc, words) else {
+        return run_input(rt, alloc, line, None, input, out, err);
+    };
+    let Ok(mut text) = fs::open(rt, file) else {
+        return refuse_file(file, err);
+    };
+    if matches!(task, Task::Device) {
+        return print_device(rt, alloc, words, file, &mut text, out, err);
     }
-    match fs::open(rt, file) {
-        Ok(mut text) => run_input(rt, alloc, line, &mut text, out, err),
-        Err(_) => refuse_file(file, err),
-    }
+    run_input(rt, alloc, line, folder_of(file), &mut text, out, err)
 }
 
 /// Prints the one device of a capture that is meant. Where a file is named, the capture is read from there.
@@ -151,8 +161,28 @@ fn refuse_junit<E: Write>(err: &mut E) -> u8
     BAD_WORDS
 }
 
+/// Says what stands behind `--html`, and with it.
+fn refuse_html<E: Write>(err: &mut E) -> u8
+    ensures { result ≡ 2 }
+{
+    let _ = err.write_all(
+        b"usbtrace: --html: say once into which folder, behind it, and which files are tested\n",
+    );
+    BAD_WORDS
+}
+
+/// Says what stands with `--update`.
+fn refuse_update<E: Write>(err: &mut E) -> u8
+    ensures { result ≡ 2 }
+{
+    let _ = err.write_all(
+        b"usbtrace: --update: say which files are rewritten, without --junit and --html\n",
+    );
+    BAD_WORDS
+}
+
 /// Tests the files of a command line.
-fn run_line_tests<T: Files + Alloc + Clone + Drop, W: Write, E: Write>(
+fn run_line_tests<T: Threads + Wait + Sync + Files + Alloc + Clone + Drop, W: Write, E: Write>(
     rt: &T,
     alloc: Global,
     line: &CommandLine<'_>,
@@ -164,19 +194,19 @@ fn run_line_tests<T: Files + Alloc + Clone + Drop, W: Write, E: Write>(
         JunitOption::File(file) => Some(file),
         JunitOption::Bad => return refuse_junit(err),
     };
-    run_tests(
-        rt,
-        alloc,
-        line.is_lenient,
-        junit,
-        line.files.as_slice(),
-        out,
-        err,
-    )
+    let pages = match line.html {
+        JunitOption::Unasked => None,
+        JunitOption::File(folder) => Some(folder),
+        JunitOption::Bad => return refuse_html(err),
+    };
+    if line.is_update && (junit.is_some() || pages.is_some()) {
+        return refuse_update(err);
+    }
+    run_tests(rt, alloc, line, junit, pages, out, err)
 }
 
 /// Does what the words ask for, and answers the status. Where they name no file, standard input is read.
-pub fn perform<
+fn perform_words<
     T: Threads + Wait + Sync + Files + Alloc + Clone + Drop,
     R: Read,
     W: Write,
@@ -190,8 +220,52 @@ pub fn perform<
         ([_, "--version" | "-V"], []) => print_version(out, err),
         ([_, "test"], [_, ..]) => run_line_tests(rt, alloc, line, out, err),
         _ if line.junit.is_asked() => refuse_junit(err),
-        (_, []) => run_input(rt, alloc, line, input, out, err),
+        _ if line.html.is_asked() => refuse_html(err),
+        _ if line.is_update => refuse_update(err),
+        (_, []) => run_input(rt, alloc, line, None, input, out, err),
         (_, [file]) => run_file(rt, alloc, line, file, input, out, err),
         _ => refuse_files(err),
+    }
+}
+
+/// Says what stands behind `--color`.
+fn refuse_colours<E: Write>(err: &mut E) -> u8
+    ensures { result ≡ 2 }
+{
+    let _ = err.write_all(b"usbtrace: --color: say once, behind it: always, never or auto\n");
+    BAD_WORDS
+}
+
+/// The form of what is printed: help is printed as it is.
+fn form_of(line: &CommandLine<'_>) -> PrintedForm {
+    if line
+        .words
+        .iter()
+        .any(|word| matches!(*word, "-h" | "--help"))
+    {
+        PrintedForm::Lines
+    } else {
+        line.form()
+    }
+}
+
+/// Does what the words ask for, prints in the form that they ask for, and answers the status.
+pub fn perform<
+    T: Threads + Wait + Sync + Files + Alloc + Clone + Drop,
+    R: Read,
+    W: Write,
+    E: Write,
+>(rt: &T, alloc: Global, line: &CommandLine<'_>, input: &mut R, out: &mut W, err: &mut E) -> u8 {
+    if line.colours == ColourOption::Bad {
+        return refuse_colours(err);
+    }
+    let mut printed = Printed::new(alloc, form_of(line), line.printed_by(), out);
+    let status = perform_words(rt, alloc, line, input, &mut printed, err);
+    match printed.end() {
+        Ok(()) => status,
+        Err(error) => {
+            tell_failure(&error, err);
+            FAILED
+        }
     }
 }

@@ -3,15 +3,24 @@
 ghost use Rattle.std.specs.Prelude.{◌≡◌, ◌≤◌, false, true};
 ghost use Rattle.usbtrace.specs.Status.{tests_status};
 
+use crate::bad_line::first_bad_line;
+use crate::expecting::expects_nothing;
+use crate::files::CommandLine;
 use crate::folders::{is_folder, tests_in};
+use crate::inserted::{InsertedFault, folder_of, inserted};
 use crate::junit::{CaseEnd, TestCases};
 use crate::statuses::{FAILED, tell_failure, tests_status};
-use std::alloc::{AllocError, Global};
-use std::io::{Read, Write};
+use std::alloc::Global;
+use std::io::Write;
 use std::rt::Files;
+use std::sync::Wait;
+use std::thread::Threads;
 use std::{fs, io};
 use trace_io::{Fault, read_whole};
 use trace_test::{TestOutcome, report, test};
+
+mod paging;
+mod updating;
 
 /// How many tests are passed, and how many failed.
 #[derive(Clone, Copy)]
@@ -51,23 +60,32 @@ impl Tally {
 }
 
 /// Tests that are being made: the streams on which is told what comes of them.
-struct Testing<'a, W, E> {
+struct Testing<'a, 'p, W, E> {
     alloc: Global,
     is_lenient: bool,
+    /// Whether the lines that differ are rewritten.
+    is_update: bool,
+    /// Whether it is told on standard output too why a file isn't tested.
+    tells_why: bool,
     tally: Tally,
     /// The tests, if they are wanted in a file too.
     cases: Option<TestCases>,
+    /// The folder of the pages, if these are wanted.
+    pages: Option<&'p str>,
     out: &'a mut W,
     err: &'a mut E,
 }
 
-impl<W, E> Drop for Testing<'_, W, E> {
+impl<W, E> Drop for Testing<'_, '_, W, E> {
     fn drop(self) {
         let Testing {
             alloc: _,
             is_lenient: _,
+            is_update: _,
+            tells_why: _,
             tally: _,
             cases: _,
+            pages: _,
             out: _,
             err: _,
         } = self;
@@ -83,19 +101,15 @@ fn is_passed(outcome: &TestOutcome, is_lenient: bool) -> bool {
     }
 }
 
-/// Tests what a file has: whether it is passed, and what is told of it.
-fn test_input<R: Read>(
-    alloc: Global,
-    is_lenient: bool,
-    input: &mut R,
-) -> Result<(bool, Vec<u8>), Fault> {
-    let text = read_whole(alloc, input)?;
-    let outcome = test(alloc, text.as_slice())?;
-    let told = report(alloc, &outcome)?;
-    Ok((is_passed(&outcome, is_lenient), told))
+/// A text with the bytes of the files that it names.
+fn whole_of<'a>(given: &'a [u8], whole: &'a Option<Vec<u8>>) -> &'a [u8] {
+    match whole {
+        Some(whole) => whole.as_slice(),
+        None => given,
+    }
 }
 
-impl<W: Write, E: Write> Testing<'_, W, E> {
+impl<W: Write, E: Write> Testing<'_, '_, W, E> {
     /// Notes a test for the file of all, where that is wanted.
     fn note(&mut self, file: &str, end: CaseEnd, told: &[u8]) -> io::Result<()> {
         if let Some(cases) = &mut self.cases {
@@ -109,38 +123,109 @@ impl<W: Write, E: Write> Testing<'_, W, E> {
         let _ = write!(self.err, "usbtrace: {file}{join}{why}\n");
         self.tally.count(false);
         self.note(file, CaseEnd::Error, why.as_bytes())?;
-        write!(self.out, "{file}: not tested\n")
+        write!(self.out, "{file}: not tested\n")?;
+        if self.tells_why {
+            write!(self.out, "  reason {why}\n")?;
+        }
+        Ok(())
     }
 
     /// The same, where a fault ended it.
-    fn refuse_fault(&mut self, file: &str, fault: Fault) -> io::Result<()> {
+    fn refuse_fault(&mut self, file: &str, fault: &InsertedFault) -> io::Result<()> {
         let why = format!(in self.alloc; "{fault}")?;
         self.refuse(file, ": ", why.as_str())
     }
 
-    /// Tests a file, and tells what came of it behind its name.
-    fn test_file<R: Files>(&mut self, rt: &R, file: &str) -> io::Result<()> {
+    /// The same, where a fault ended a test of this text; behind a bad line stands why that is bad.
+    fn refuse_text(&mut self, file: &str, text: &[u8], fault: Fault) -> io::Result<()> {
+        let Some(bad) = first_bad_line(self.alloc, text)? else {
+            return self.refuse_fault(file, &InsertedFault::from(fault));
+        };
+        let why = format!(in self.alloc; "{fault}\n    {}", bad.why)?;
+        self.refuse(file, ": ", why.as_str())
+    }
+
+    /// Tells what came of a test, behind the name of its file; and if it is passed and expects nothing, that on standard error. Of one that failed
+    /// its page is written, where pages are wanted.
+    fn tell<R: Threads + Wait + Sync + Files>(
+        &mut self,
+        rt: &R,
+        file: &str,
+        text: &[u8],
+        outcome: &TestOutcome,
+    ) -> io::Result<()> {
+        let told = report(self.alloc, outcome)?;
+        let is_passed = is_passed(outcome, self.is_lenient);
+        if is_passed && expects_nothing(self.alloc, text)? {
+            let _ = write!(self.err, "usbtrace: {file} expects nothing\n");
+        }
+        self.tally.count(is_passed);
+        let end = if is_passed {
+            CaseEnd::Passed
+        } else {
+            CaseEnd::Failure
+        };
+        self.note(file, end, told.as_slice())?;
+        write!(self.out, "{file}: ")?;
+        self.out.write_all(told.as_slice())?;
+        if is_passed {
+            return Ok(());
+        }
+        self.write_page(rt, file, text, outcome, told.as_slice())
+    }
+
+    /// Tests the text of a file, and tells what came of it behind its name.
+    fn test_text<R: Threads + Wait + Sync + Files>(
+        &mut self,
+        rt: &R,
+        file: &str,
+        text: &[u8],
+    ) -> io::Result<()> {
+        match test(self.alloc, text) {
+            Ok(outcome) => self.tell(rt, file, text, &outcome),
+            Err(fault) => self.refuse_text(file, text, fault),
+        }
+    }
+
+    /// Tests the text of a file, which has the bytes of the files that it names, or rewrites the file's lines where that is asked for.
+    fn test_or_update<R: Threads + Wait + Sync + Files>(
+        &mut self,
+        rt: &R,
+        file: &str,
+        given: &[u8],
+        text: &[u8],
+    ) -> io::Result<()> {
+        if self.is_update {
+            self.update_text(rt, file, given, text)
+        } else {
+            self.test_text(rt, file, text)
+        }
+    }
+
+    /// Tests a file, or rewrites its lines, and tells what came of it behind its name.
+    fn test_file<R: Threads + Wait + Sync + Files>(
+        &mut self,
+        rt: &R,
+        file: &str,
+    ) -> io::Result<()> {
         let Ok(mut input) = fs::open(rt, file) else {
             return self.refuse(file, " ", "can't be read");
         };
-        match test_input(self.alloc, self.is_lenient, &mut input) {
-            Ok((is_passed, told)) => {
-                self.tally.count(is_passed);
-                let end = if is_passed {
-                    CaseEnd::Passed
-                } else {
-                    CaseEnd::Failure
-                };
-                self.note(file, end, told.as_slice())?;
-                write!(self.out, "{file}: ")?;
-                self.out.write_all(told.as_slice())
+        let given = match read_whole(self.alloc, &mut input) {
+            Ok(given) => given,
+            Err(fault) => return self.refuse_fault(file, &InsertedFault::from(fault)),
+        };
+        match inserted(rt, self.alloc, folder_of(file), given.as_slice()) {
+            Ok(whole) => {
+                let text = whole_of(given.as_slice(), &whole);
+                self.test_or_update(rt, file, given.as_slice(), text)
             }
-            Err(fault) => self.refuse_fault(file, fault),
+            Err(fault) => self.refuse_fault(file, &fault),
         }
     }
 
     /// Tests the files of a folder.
-    fn test_folder<R: Files + Alloc + Clone + Drop>(
+    fn test_folder<R: Threads + Wait + Sync + Files + Alloc + Clone + Drop>(
         &mut self,
         rt: &R,
         folder: &str,
@@ -158,7 +243,7 @@ impl<W: Write, E: Write> Testing<'_, W, E> {
     }
 
     /// Tests files and folders, and tells how many tests are passed.
-    fn test_all<R: Files + Alloc + Clone + Drop>(
+    fn test_all<R: Threads + Wait + Sync + Files + Alloc + Clone + Drop>(
         &mut self,
         rt: &R,
         files: &[&str],
@@ -189,7 +274,7 @@ impl<W: Write, E: Write> Testing<'_, W, E> {
     }
 
     /// Tests files and folders, and writes what came of them into a file where that is wanted: the status.
-    fn test_and_write<R: Files + Alloc + Clone + Drop>(
+    fn test_and_write<R: Threads + Wait + Sync + Files + Alloc + Clone + Drop>(
         &mut self,
         rt: &R,
         files: &[&str],
@@ -205,14 +290,14 @@ impl<W: Write, E: Write> Testing<'_, W, E> {
     }
 }
 
-/// Tests files, and the files in folders; tells what came of each, and how many are passed, and writes it into a file of JUnit's form where one is
-/// named.
-pub fn run_tests<T: Files + Alloc + Clone + Drop, W: Write, E: Write>(
+/// Tests the files of a command line, and those in folders; tells what came of each, and how many are passed, and writes it into a file of
+/// JUnit's form, and pages into a folder, where these are named.
+pub fn run_tests<T: Threads + Wait + Sync + Files + Alloc + Clone + Drop, W: Write, E: Write>(
     rt: &T,
     alloc: Global,
-    is_lenient: bool,
+    line: &CommandLine<'_>,
     junit: Option<&str>,
-    files: &[&str],
+    pages: Option<&str>,
     out: &mut W,
     err: &mut E,
 ) -> u8 {
@@ -222,13 +307,16 @@ pub fn run_tests<T: Files + Alloc + Clone + Drop, W: Write, E: Write>(
     };
     let mut testing = Testing {
         alloc,
-        is_lenient,
+        is_lenient: line.is_lenient,
+        is_update: line.is_update,
+        tells_why: line.is_json,
         tally: Tally::new(),
         cases,
+        pages,
         out,
         err,
     };
-    match testing.test_and_write(rt, files, junit) {
+    match testing.test_and_write(rt, line.files.as_slice(), junit) {
         Ok(status) => status,
         Err(error) => {
             tell_failure(&error, testing.err);

@@ -20,6 +20,9 @@ pub(crate) const LINES: &str = "\
 device 0 0902300002010080320904000002ff00000007058102080000070502020800000904010001ff0000000705830308000a
 ";
 
+/// What the device descriptor says of the device: its class is 00, and has no line.
+const IDS_LINE: &str = "ids 0 1234 5678 0100\n";
+
 /// Those of the device with two configurations.
 const MANY_LINES: &str = "\
 # 1234:5678, USB 2.00, 2 configurations
@@ -31,6 +34,7 @@ const MANY_LINES: &str = "\
 #   83 interrupt IN, packets of 8 bytes
 # left out: 18 more bytes, which `usbtrace describe` prints
 device 0 09025700030100e0fa080b00020202010009040000000202010005240010010904010000ff0000000904010101ff0000000905840d000b010002090402000103010200092111010001223f000705830308000a0431aabb
+ids 0 1234 5678 0100
 ";
 
 /// Bytes behind each other.
@@ -58,10 +62,28 @@ fn fault(alloc: Global, input: &[u8]) -> Option<DescriptorFault> {
 #[test]
 fn a_file_with_a_device_descriptor_says_its_vendor(rt: HostRuntime) -> Result<(), Fail> {
     let input = joined(rt.alloc(), &[DEVICE, CONFIGURATION])?;
-    let lines = joined(rt.alloc(), &[DEVICE_LINE.as_bytes(), LINES.as_bytes()])?;
+    let parts = [
+        DEVICE_LINE.as_bytes(),
+        LINES.as_bytes(),
+        IDS_LINE.as_bytes(),
+    ];
+    let lines = joined(rt.alloc(), &parts)?;
     let made = device_lines(rt.alloc(), input.as_slice())?;
     assert_eq!(rt; made.as_slice(), lines.as_slice());
     Ok(())
+}
+
+#[test]
+fn a_class_has_a_line_of_its_own(rt: HostRuntime) {
+    let text = "12 01 10 02 00 00 01 40 b5 0b a3 10 0f 07 01 02 00 01 09 02 09 00 00 01 00 80 00";
+    let lines = "\
+# 0bb5:10a3, USB 2.10, 1 configuration
+# configuration 1: 0 interfaces
+device 0 090209000001008000
+ids 0 0bb5 10a3 070f
+class 0 00 00 01
+";
+    assert!(rt; makes(rt.alloc(), text.as_bytes(), lines));
 }
 
 #[test]

@@ -1,5 +1,5 @@
 -- A task over all that the input has.
-use Rattle.trace_io.specs.declared.words.Task.TheVariants.{Capture, Check, Describe, Device, Devices, Left, Live, Run, Steps, Test}
+use Rattle.trace_io.specs.declared.words.Task.TheVariants.{Alone, Capture, Check, Describe, Device, Devices, Explain, Left, Live, Packets, Run, Steps, Test}
 use Rattle.trace_main.proofs.Begun.{bytes_begun}
 use Rattle.trace_main.proofs.program.perform.Goals as goal
 
@@ -52,3 +52,18 @@ pub returns-clause-begun : goal.returns-clause-begun
 returns-clause-begun g c =
     bytes_begun (g.R.Read.remaining c.args.input.now) c.args.task Describe c.as_slice-in-Describe.result.now (g.W.Write.contents c.args.out.now) (g.W.Write.contents c.describe.new.out)
     c.in-Describe.is (rw c.as_slice-in-Describe.ensures.value c.in_ok-text.ensures.whole) c.describe.ensures.begun
+
+pub returns-in-Packets-clause-begun : goal.returns-in-Packets-clause-begun
+returns-in-Packets-clause-begun g c =
+    bytes_begun (g.R.Read.remaining c.args.input.now) c.args.task (Packets c.in-Packets.steps) c.as_slice-in-Packets.result.now (g.W.Write.contents c.args.out.now) (g.W.Write.contents c.packets.new.out)
+    c.in-Packets.is (rw c.as_slice-in-Packets.ensures.value c.in_ok-text.ensures.whole) c.packets.ensures.begun
+
+pub returns-in-Alone-clause-begun : goal.returns-in-Alone-clause-begun
+returns-in-Alone-clause-begun g c =
+    bytes_begun (g.R.Read.remaining c.args.input.now) c.args.task (Alone c.in-Alone.h) c.as_slice-in-Alone.result.now (g.W.Write.contents c.args.out.now) (g.W.Write.contents c.alone.new.out)
+    c.in-Alone.is (rw c.as_slice-in-Alone.ensures.value c.in_ok-text.ensures.whole) c.alone.ensures.begun
+
+pub returns-in-Explain-clause-begun : goal.returns-in-Explain-clause-begun
+returns-in-Explain-clause-begun g c =
+    bytes_begun (g.R.Read.remaining c.args.input.now) c.args.task Explain c.as_slice-in-Explain.result.now (g.W.Write.contents c.args.out.now) (g.W.Write.contents c.explain.new.out)
+    c.in-Explain.is (rw c.as_slice-in-Explain.ensures.value c.in_ok-text.ensures.whole) c.explain.ensures.begun

@@ -1,12 +1,12 @@
 -- What words and input come to.
 use Rattle.std.proofs.Common.{inl, refl}
 use Rattle.usb_scripttext.specs.Words.{words_of}
-use Rattle.trace_main.proofs.Reports.{bad_input, never_begun, quiet_unless_threads, rest_of, silent_unless, told_of, told_words, unexpected_found, unwritten, words_are_bad}
+use Rattle.trace_main.proofs.Reports.{good_input, never_begun, quiet_unless_threads, rest_of, silent_unless, told_of, told_words, unexpected_found, unwritten, words_are_bad}
 use Rattle.trace_main.proofs.program.trace.Goals as goal
 
 pub returns-in-Ok-clause-bad : goal.returns-in-Ok-clause-bad
 returns-in-Ok-clause-bad g c asks =
-    bad_input (words_of c.args.words.now) (g.R.Read.remaining c.args.input.now) c.in-Ok.task c.perform-ended.new.notes.items c.perform-ended.result c.status_of.result
+    good_input (words_of c.args.words.now) (g.R.Read.remaining c.args.input.now) c.in-Ok.task c.perform-ended.new.notes.items c.perform-ended.result c.status_of.result
     (g.W.Write.contents c.args.out.now) (g.W.Write.contents c.perform-ended.new.out) c.in-Ok.ensures.task asks c.perform-ended.ensures.ends c.status_of.ensures.status
 
 pub returns-in-Ok-clause-unexpected : goal.returns-in-Ok-clause-unexpected

@@ -1,0 +1,72 @@
+//! Scenarios whose lines name files: the words that take one get it with the bytes of the files.
+
+use crate::halves::perform_task;
+use crate::inserted::{InsertedFault, inserted};
+use crate::statuses::FAILED;
+use std::alloc::Global;
+use std::io::{Read, Write};
+use std::rt::Files;
+use std::sync::Wait;
+use std::thread::Threads;
+use trace_io::{Task, read_whole};
+
+/// Whether a task takes a scenario.
+fn takes_scenario(task: &Task) -> bool {
+    !matches!(task, Task::Devices(_) | Task::Device | Task::Describe)
+}
+
+/// Does a task over a scenario, with the bytes of the files that it names in a folder.
+fn perform_scenario<T: Threads + Wait + Sync + Files, W: Write, E: Write>(
+    rt: &T,
+    alloc: Global,
+    words: &[&str],
+    task: &Task,
+    folder: Option<&str>,
+    text: &[u8],
+    out: &mut W,
+    err: &mut E,
+) -> Result<u8, InsertedFault> {
+    let whole = inserted(rt, alloc, folder, text)?;
+    let mut input = match &whole {
+        Some(whole) => whole.as_slice(),
+        None => text,
+    };
+    Ok(perform_task(rt, alloc, words, task, &mut input, out, err))
+}
+
+/// Says why a text has no bytes of files, and answers the status.
+fn refuse<E: Write>(fault: &InsertedFault, err: &mut E) -> u8 {
+    match fault {
+        InsertedFault::Other(fault) => {
+            let _ = (*fault).tell(err);
+        }
+        InsertedFault::File(..) => {
+            let _ = write!(err, "usbtrace: {fault}\n");
+        }
+    }
+    FAILED
+}
+
+/// Does a task over an input, and answers the status. Files that a scenario names are looked for in this folder.
+pub fn perform_over<T: Threads + Wait + Sync + Files, R: Read, W: Write, E: Write>(
+    rt: &T,
+    alloc: Global,
+    words: &[&str],
+    task: &Task,
+    folder: Option<&str>,
+    input: &mut R,
+    out: &mut W,
+    err: &mut E,
+) -> u8 {
+    if !takes_scenario(task) {
+        return perform_task(rt, alloc, words, task, input, out, err);
+    }
+    let performed = match read_whole(alloc, input) {
+        Ok(text) => perform_scenario(rt, alloc, words, task, folder, text.as_slice(), out, err),
+        Err(fault) => Err(InsertedFault::from(fault)),
+    };
+    match performed {
+        Ok(status) => status,
+        Err(fault) => refuse(&fault, err),
+    }
+}

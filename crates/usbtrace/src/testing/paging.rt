@@ -1,0 +1,73 @@
+//! Pages of the tests that failed.
+
+use super::Testing;
+use crate::page::{FailedTest, page};
+use crate::shown_run::shown_run;
+use std::alloc::{AllocError, Global};
+use std::io::Write;
+use std::rt::Files;
+use std::sync::Wait;
+use std::thread::Threads;
+use std::{fs, io};
+use trace_test::TestOutcome;
+
+/// The number of the line that differs, or that took the first packet which isn't as expected; None where there is none.
+fn line_of(outcome: &TestOutcome) -> Option<u64> {
+    match outcome {
+        TestOutcome::Passed => None,
+        TestOutcome::Differs(difference) => Some(difference.line),
+        TestOutcome::Unexpected(unexpected) => match &unexpected.first {
+            Some(first) => Some(first.line),
+            None => None,
+        },
+    }
+}
+
+/// The path of the page of a file's test: the file's, with each `/` as `_` and without the dots in front, in the folder of all.
+fn path_of(alloc: Global, folder: &str, file: &str) -> Result<String, AllocError> {
+    let mut path = String::from_str(alloc, folder)?;
+    if !folder.ends_with('/') {
+        path.push('/')?;
+    }
+    for letter in file.chars().skip_while(|letter| *letter == '.') {
+        path.push(if letter == '/' { '_' } else { letter })?;
+    }
+    path.push_str(".html")?;
+    Ok(path)
+}
+
+/// Writes a page into a folder, which is made if it isn't there.
+fn write_into<R: Files>(rt: &R, folder: &str, path: &str, page: &[u8]) -> io::Result<()> {
+    fs::create_dir_all(rt, folder)?;
+    fs::write(rt, path, page)
+}
+
+impl<W: Write, E: Write> Testing<'_, '_, W, E> {
+    /// Writes the page of a test that failed, where pages are wanted. One that can't be written is told on standard error.
+    pub(super) fn write_page<R: Threads + Wait + Sync + Files>(
+        &mut self,
+        rt: &R,
+        file: &str,
+        text: &[u8],
+        outcome: &TestOutcome,
+        told: &[u8],
+    ) -> io::Result<()> {
+        let Some(folder) = self.pages else {
+            return Ok(());
+        };
+        let line = line_of(outcome);
+        let failed = FailedTest {
+            file,
+            text,
+            told,
+            line,
+        };
+        let run = shown_run(rt, self.alloc, text, failed.lines())?;
+        let page = page(self.alloc, &failed, &run)?;
+        let path = path_of(self.alloc, folder, file)?;
+        if write_into(rt, folder, path.as_str(), page.as_slice()).is_err() {
+            let _ = write!(self.err, "usbtrace: {path} can't be written\n");
+        }
+        Ok(())
+    }
+}
