@@ -188,6 +188,11 @@ class Page(html.parser.HTMLParser):
             self.rows[-1][1].append(data.strip())
 
 
+def page_name(file):
+    """Where the page of a file's test is, in the folder of all pages."""
+    return "/".join(name for name in file.split("/") if name not in ("", ".", "..")) + ".html"
+
+
 def judged_page(folder):
     """What is wrong with the page of a test that differs at its line 14, of 30."""
     lines = [f"# comment {number}" for number in range(1, 31)]
@@ -195,8 +200,8 @@ def judged_page(folder):
     file = file_of(folder, "paged.txt", "\n".join(lines) + "\n")
     pages = pathlib.Path(folder) / "new" / "pages"
     ran(["test", "--html", str(pages), file, SCENARIOS[0]])
-    made = sorted(path.name for path in pages.glob("*")) if pages.is_dir() else []
-    if made != [file.lstrip(".").replace("/", "_") + ".html"]:
+    made = sorted(str(path.relative_to(pages)) for path in pages.rglob("*.html")) if pages.is_dir() else []
+    if made != [page_name(file)]:
         return f"usbtrace test --html: made {made}"
     page = Page((pages / made[0]).read_text())
     numbers = [texts[0] for _, texts in page.rows]
@@ -215,7 +220,7 @@ def with_pages(folder):
     """Words that ask for pages, and what is to come of them."""
     differs = differing(folder)
     told = f"{differs}: line 2 differs\n  wanted h1 done\n  got    h1 refused 3\n0 passed, 1 failed\n"
-    page = f"{differs}/{differs.replace('/', '_')}.html"
+    page = f"{differs}/{page_name(differs)}"
     yield ["test", "--html", differs, differs], (1, told, f"usbtrace: {page} can't be written\n")
     refused = "usbtrace: --html: say once into which folder, behind it, and which files are tested\n"
     yield ["test", differs, "--html"], (2, "", refused)

@@ -1,5 +1,5 @@
 //! Scenes of the low crates: TRBs, descriptors, devices, events, callbacks, the log and captures; and of the core, in which the bytes of
-//! its rings have to be those of the standard. A line says what each scene saw; a scene that isn't as it has to be ends the program with
+//! its rings have to be those of the standard, also over two kinds of device in one setup. A line says what each scene saw; a scene that isn't as it has to be ends the program with
 //! an error.
 //!
 //! # Files
@@ -9,10 +9,12 @@
 //! - `bytes.rt`, with its folder: the core's rings, byte by byte: short transfers and errands (`short.rt`), transfers over several TRBs
 //!   (`long.rt`); what can be asked of it between two steps (`standing.rt`); how a scene is played (`scene.rt`), and whether what is found fits a line (`pattern.rt`); the core with what can be asked
 //!   of its rings (`host.rt`), what was found, in words (`found.rt`), and the device (`device.rt`)
+//! - `both.rt`, with its folder: the core over two kinds of device in one setup, and with stored closures
 //! - `relay.rt`, `changed.rt`: a device that hands its calls on; a configuration with a byte changed
 //! - `expect.rt`: an error that says what isn't as it has to be
 #![tactic(auto)]
 
+mod both;
 mod bytes;
 mod callbacks;
 mod captures;
@@ -38,5 +40,6 @@ fn main(rt: HostRuntime) -> Result<()> {
     callbacks::play(&rt, alloc)?;
     log::play(&rt, alloc)?;
     captures::play(&rt, alloc)?;
-    bytes::play(&rt)
+    bytes::play(&rt)?;
+    both::play(&rt, alloc)
 }

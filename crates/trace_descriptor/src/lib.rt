@@ -42,8 +42,6 @@ mod names;
 mod piece;
 mod stop;
 mod table;
-#[cfg(test)]
-mod tests;
 mod text;
 
 pub use describe::{description, description_stop};

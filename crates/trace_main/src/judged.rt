@@ -65,7 +65,7 @@ pub(crate) fn entries<W: Write>(alloc: Global, text: &[u8], out: &mut W) -> Resu
 {
     let source = Source::new(alloc, text)?;
     let told = judged(alloc, &source)?;
-    let scenario = source.scenario(alloc)?;
+    let scenario = source.into_scenario(alloc)?;
     run(alloc, scenario, out)?;
     tell_judged(told, out)
 }
@@ -100,7 +100,7 @@ pub(crate) fn left<W: Write>(alloc: Global, text: &[u8], out: &mut W) -> Result<
 {
     let source = Source::new(alloc, text)?;
     let told = judged(alloc, &source)?;
-    let scenario = source.scenario(alloc)?;
+    let scenario = source.into_scenario(alloc)?;
     print_left(alloc, scenario, out)?;
     tell_judged(told, out)
 }
@@ -120,6 +120,6 @@ pub(crate) fn alone<W: Write>(
 {
     let source = Source::new(alloc, text)?;
     let Scenario { setup, .. } = source.scenario(alloc)?;
-    let scenario = source.scenario(alloc)?;
+    let scenario = source.into_scenario(alloc)?;
     run_alone(alloc, scenario, setup, h, out)
 }

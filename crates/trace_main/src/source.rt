@@ -5,7 +5,7 @@ ghost use Rattle.trace_scenario.specs.DeviceLines.{device_lines};
 ghost use Rattle.trace_scenario.specs.Runnable.{IsRunnable};
 ghost use Rattle.trace_scenario.specs.StepLines.{numbered, step_lines};
 ghost use Rattle.usb_scripttext.specs.Results.{IsFaultOf};
-ghost use Rattle.trace_main.specs.Source.{Stands, scenario_in, text_in, told_lines, told_number};
+ghost use Rattle.trace_main.specs.Source.{IsReadFirst, Stands, scenario_in, text_in, told_lines, told_number};
 
 use std::alloc::{AllocError, Global};
 use std::marker::Model;
@@ -20,6 +20,8 @@ pub(crate) struct Source<'a> {
     given: &'a [u8],
     /// What it stands for, where it is no scenario itself.
     expanded: Option<Expanded>,
+    /// The scenario, where the text is one itself and was read as one; so it isn't read once more.
+    first: Option<Scenario>,
 }
 
 impl<'a> Model for Source<'a> {
@@ -27,22 +29,30 @@ impl<'a> Model for Source<'a> {
 
     ghost Value = { Source };
 
-    ghost view = { λ src. record { given = src.given.now; expanded = src.expanded } };
+    ghost view = { λ src. record { given = src.given.now; expanded = src.expanded; first = src.first } };
 }
 
 impl<'a> Source<'a> {
     /// What a text stands for. An error where memory is refused.
-    #[tactic(auto, using(crate::proofs::Sources::itself, crate::proofs::Sources::as_test))]
+    #[tactic(auto, using(crate::proofs::Sources::itself, crate::proofs::Sources::as_test, crate::proofs::Sources::read_first))]
     pub(crate) fn new(alloc: Global, given: &'a [u8]) -> Result<Source<'a>, AllocError>
         ensures stands { IfOk result Stands }
         ensures given { IfOk result (λ src. src.given ≡ given.now) }
+        ensures first { IfOk result IsReadFirst }
     {
-        let expanded = match read_scenario(alloc, given) {
-            Ok(_) => None,
-            Err(TextFault::Line(_)) => Some(scenario_text(alloc, given)?),
-            Err(TextFault::Memory) => return Err(AllocError),
-        };
-        Ok(Source { given, expanded })
+        match read_scenario(alloc, given) {
+            Ok(scenario) => Ok(Source {
+                given,
+                expanded: None,
+                first: Some(scenario),
+            }),
+            Err(TextFault::Line(_)) => Ok(Source {
+                given,
+                expanded: Some(scenario_text(alloc, given)?),
+                first: None,
+            }),
+            Err(TextFault::Memory) => Err(AllocError),
+        }
     }
 
     /// The text of the scenario.
@@ -93,6 +103,19 @@ impl<'a> Source<'a> {
             Ok(scenario) => Ok(scenario),
             Err(TextFault::Line(line)) => Err(TextFault::Line(self.number(line))),
             Err(TextFault::Memory) => Err(TextFault::Memory),
+        }
+    }
+
+    /// The scenario alone, as it was read first, where it was.
+    pub(crate) fn into_scenario(mut self, alloc: Global) -> Result<Scenario, TextFault>
+        requires first { IsReadFirst self }
+        ensures scenario { IfOk result (λ s. scenario_in self.entry ≡ Ok s) }
+        ensures fault { IfErr result (λ fault. IsFaultOf fault (scenario_in self.entry)) }
+        ensures runnable { IfOk result (λ s. IsRunnable s) }
+    {
+        match self.first.take() {
+            Some(scenario) => Ok(scenario),
+            None => self.scenario(alloc),
         }
     }
 

@@ -25,7 +25,7 @@ use trace_scenario::{Lined, NumberedLine, Scenario, read_lined, read_scenario};
 use usb_scripttext::TextFault;
 
 /// For each step's line of the scenario, the number of the line of the test that it comes from, and no text.
-fn origin_lines<'a>(
+pub(crate) fn origin_lines<'a>(
     alloc: Global,
     expanded: &Expanded,
     lines: &[NumberedLine<'_>],
@@ -43,7 +43,11 @@ fn origin_lines<'a>(
 }
 
 /// What the run of a scenario prints, each entry behind the number of a line.
-fn printed(alloc: Global, scenario: Scenario, lines: &[NumberedLine<'_>]) -> Result<Vec<u8>, Fault>
+pub(crate) fn printed(
+    alloc: Global,
+    scenario: Scenario,
+    lines: &[NumberedLine<'_>],
+) -> Result<Vec<u8>, Fault>
     requires runnable { IsRunnable scenario }
     requires each { length lines.now ≡ length scenario.plan }
     ensures printed { IfOk result (λ out. out.items ≡ stepwise_text scenario.setup scenario.plan scenario.rules (map numbered lines.now)) }
@@ -55,7 +59,7 @@ fn printed(alloc: Global, scenario: Scenario, lines: &[NumberedLine<'_>]) -> Res
 }
 
 /// What the run of a scenario leaves.
-fn left(alloc: Global, scenario: Scenario) -> Result<Vec<u8>, Fault>
+pub(crate) fn left(alloc: Global, scenario: Scenario) -> Result<Vec<u8>, Fault>
     requires { IsRunnable scenario }
     ensures left { IfOk result (λ out. out.items ≡ left_lines scenario) }
     ensures fault { IfErr result (λ fault. IsOfRun fault) }

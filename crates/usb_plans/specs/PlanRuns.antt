@@ -17,6 +17,7 @@ use Rattle.usb_model.specs.World.{World, turn}
 use Rattle.usb_model.specs.World.Journal.{run_from}
 use Rattle.usb_model.specs.World.Plans.{FitsReturn, Stage, first_rule, is_submission, noted, return_steps, returning, stage_after}
 use Rattle.usb_core.specs.Public.{Carries, Kept, ShowsWorld, State}
+use Rattle.usb_core.specs.Steps.{left_over}
 use Rattle.usb_core.specs.declared.results.Taken.{Taken}
 use Rattle.usb_plans.specs.declared.plan_run.Performed.{Performed}
 use Rattle.proof_laws.specs.InCallbacks.{IsTold, ends_callback, is_answer, is_there}
@@ -44,6 +45,11 @@ of_option (Some x) = x ∷ []
 -- the entries of a piece of a plan
 abbrev pub entries_of : {P : Type 0} → Performed P → List Entry
 entries_of x = x.entry ∷ of_option x.stop
+
+-- what comes back of the callback that is given with a piece of a plan, of whose first entry this is the reply: all of it, but where a transfer was submitted with it
+abbrev pub given_back : {P : Type 0} → Plan → Reply → Option P → Option P
+given_back (Do step) reply callback = left_over (takes_payload step) reply callback
+given_back (Return h n) reply callback = callback
 
 -- none of the names and numbers
 abbrev pub nowhere : (h n : ℕ) → Bool

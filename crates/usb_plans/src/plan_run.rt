@@ -8,8 +8,9 @@ ghost use Rattle.usb_model.specs.declared.verdict.Rule.{Rule};
 ghost use Rattle.usb_model.specs.Numbers.{takes_payload};
 ghost use Rattle.usb_model.specs.World.Plans.{first_stage, is_submission};
 ghost use Rattle.usb_core.specs.Public.{setup_of};
+ghost use Rattle.usb_core.specs.Steps.{left_over};
 ghost use Rattle.proof_laws.specs.InCallbacks.{is_answer};
-ghost use Rattle.usb_plans.specs.PlanRuns.{Calls, CallsThere, MakesAnswer, MakesStep, Performs, Returns, RunBehind, RunBehindReturn, RunBehindStep, RunsToo, ShowsStage, entries_of, is_verdict};
+ghost use Rattle.usb_plans.specs.PlanRuns.{Calls, CallsThere, MakesAnswer, MakesStep, Performs, Returns, RunBehind, RunBehindReturn, RunBehindStep, RunsToo, ShowsStage, entries_of, given_back, is_verdict};
 
 use crate::running_callbacks::RunningCallbacks;
 use std::alloc::{AllocError, Global};
@@ -101,6 +102,7 @@ impl<C: Callback, D: Device> PlanRun<C, D> {
         ensures performs { IfOk result (λ x. Performs C.rule self.old piece callback (entries_of x) self.new) }
         ensures called { IfOk result (λ x. Calls C.rule C.may_answer self.old piece (entries_of x)) }
         ensures out { IfOk result (λ x. RunBehind piece x.entry.reply self.old self.new) }
+        ensures back { IfOk result (λ x. x.back ≡ given_back piece x.entry.reply callback) }
     {
         match piece {
             Plan::Do(step) => self.make(step, callback),
@@ -115,6 +117,7 @@ impl<C: Callback, D: Device> PlanRun<C, D> {
         ensures made { IfOk result (λ x. MakesStep C.rule self.old step callback x.entry self.new) }
         ensures once { IfOk result (λ x. x.stop ≡ None) }
         ensures out { IfOk result (λ x. RunBehindStep x.entry.reply self.old self.new) }
+        ensures back { IfOk result (λ x. x.back ≡ left_over (takes_payload step) x.entry.reply callback) }
     {
         let Ok(Stepped { entry, out, back }) = self.core.step(step, callback) else {
             return Err(AllocError);
@@ -175,6 +178,7 @@ impl<C: Callback, D: Device> PlanRun<C, D> {
         ensures performs { IfOk result (λ x. Performs C.rule self.old (Return h n) callback (entries_of x) self.new) }
         ensures called { IfOk result (λ x. CallsThere C.rule C.may_answer self.old h n (entries_of x)) }
         ensures out { IfOk result (λ _. RunBehindReturn h n self.old self.new) }
+        ensures back { IfOk result (λ x. x.back ≡ callback) }
     {
         match self.running.remove(h, n) {
             None => Ok(Performed {
@@ -194,7 +198,8 @@ impl<C: Callback, D: Device> PlanRun<C, D> {
         taken: Taken<C>,
         callback: Option<C>,
     ) -> Result<Performed<C>, AllocError>
-        ensures { IfOk result (λ x. Returns C.rule C.may_answer self.old h n taken (entries_of x) self.new) }
+        ensures returns { IfOk result (λ x. Returns C.rule C.may_answer self.old h n taken (entries_of x) self.new) }
+        ensures back { IfOk result (λ x. x.back ≡ callback) }
     {
         let (verdict, again) = taken.payload.call(taken.returned);
         let stops = verdict.is_stop();

@@ -54,8 +54,12 @@ fn reads_of<X: Threads + Wait + Sync>(
 }
 
 #[test]
-fn the_longest_input_is_taken_and_none_longer(rt: HostRuntime) {
+fn the_longest_input_is_taken(rt: HostRuntime) {
     assert!(rt; reads_of(&rt, rt.alloc(), Comment::new(LONGEST, LONGEST), 0, "") > 0);
+}
+
+#[test]
+fn no_longer_input_is_taken(rt: HostRuntime) {
     assert!(rt;
         reads_of(
             &rt,
@@ -67,10 +71,17 @@ fn the_longest_input_is_taken_and_none_longer(rt: HostRuntime) {
     );
 }
 
-/// One read a byte, and one at the end; and where there are more bytes, none behind the first that is too many.
+/// How often an input is read at most, a byte at a time: one read a byte, and one more.
+const MOST_READS: u64 = 67_108_865;
+
+/// The one more is at the end.
 #[test]
-fn an_input_is_read_67_108_865_times_at_most(rt: HostRuntime) {
-    let most = 67_108_865;
-    assert!(rt; reads_of(&rt, rt.alloc(), Comment::new(LONGEST, 1), 0, "") == most);
-    assert!(rt; reads_of(&rt, rt.alloc(), Comment::new(LONGEST + 1, 1), 1, TOO_LONG) == most);
+fn the_longest_input_is_read_to_its_end(rt: HostRuntime) {
+    assert!(rt; reads_of(&rt, rt.alloc(), Comment::new(LONGEST, 1), 0, "") == MOST_READS);
+}
+
+/// The one more gives the first byte that is too many.
+#[test]
+fn a_longer_input_is_read_no_further(rt: HostRuntime) {
+    assert!(rt; reads_of(&rt, rt.alloc(), Comment::new(LONGEST + 1, 1), 1, TOO_LONG) == MOST_READS);
 }

@@ -1,13 +1,12 @@
 //! Readers and writers over memory that may fail, and runs over them.
 
-use crate::files::command_line;
-use crate::program::perform;
 use std::alloc::{AllocError, Global};
 use std::io;
 use std::io::{ErrorKind, Read, Write};
 use std::rt::Files;
 use std::sync::Wait;
 use std::thread::Threads;
+use trace_command::{command_line, perform};
 use trace_main::trace;
 
 /// Gives bytes a few at a time, and then fails or ends.

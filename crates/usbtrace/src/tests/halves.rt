@@ -1,11 +1,10 @@
 //! Inputs of which only a part can be printed, and what is told of them.
 
 use super::fakes::{Input, Output, run, run_files, run_line};
-use crate::files::command_line;
-use crate::program::perform;
 use std::alloc::AllocError;
 use std::io::ErrorKind;
 use std::test::Fail;
+use trace_command::{command_line, perform};
 
 /// A device descriptor that counts one configuration, and that configuration, without interfaces.
 const DEVICE: &str = "\

@@ -21,3 +21,9 @@ returns-in-Return-clause-called g c = rw c.in-Return.is c.return_callback.ensure
 
 pub returns-in-Return-clause-out : goal.returns-in-Return-clause-out
 returns-in-Return-clause-out g c = rw c.in-Return.is c.return_callback.ensures.out
+
+pub returns-in-Do-clause-back : goal.returns-in-Do-clause-back
+returns-in-Do-clause-back g c = rw c.in-Do.is c.make.ensures.back
+
+pub returns-in-Return-clause-back : goal.returns-in-Return-clause-back
+returns-in-Return-clause-back g c = rw c.in-Return.is c.return_callback.ensures.back

@@ -18,14 +18,14 @@ returns-in_ok-answer-in-None-clause-out g c = rw (← c.self.view_is) (λ h n. a
 pub returns-in-Some-clause-performs : goal.returns-in-Some-clause-performs
 returns-in-Some-clause-performs g c = rw (← c.self.view_is)
     (return_result g.C.Callback.rule g.C.Callback.may_answer (record { core = c.self.inside.core; running = c.self.inside.running }) (record { core = c.self.inside.core; running = c.remove.new.self }) c.call_back.new.self c.args.h c.args.n c.args.callback c.in-Some.taken c.call_back.result
-    refl c.remove.ensures.others (sym c.remove.ensures.value ∙ c.in-Some.is) c.call_back.ensures)
+    refl c.remove.ensures.others (sym c.remove.ensures.value ∙ c.in-Some.is) c.call_back.ensures.returns)
 
 pub returns-in-Some-clause-called : goal.returns-in-Some-clause-called
 returns-in-Some-clause-called g c = rw (← c.self.view_is)
     (call_result g.C.Callback.rule g.C.Callback.may_answer (record { core = c.self.inside.core; running = c.self.inside.running }) (record { core = c.self.inside.core; running = c.remove.new.self }) c.call_back.new.self c.args.h c.args.n c.in-Some.taken c.call_back.result
-    refl c.remove.ensures.others (sym c.remove.ensures.value ∙ c.in-Some.is) c.call_back.ensures)
+    refl c.remove.ensures.others (sym c.remove.ensures.value ∙ c.in-Some.is) c.call_back.ensures.returns)
 
 pub returns-in-Some-clause-out : goal.returns-in-Some-clause-out
 returns-in-Some-clause-out g c = rw (← c.self.view_is)
     (run_result g.C.Callback.rule g.C.Callback.may_answer (record { core = c.self.inside.core; running = c.self.inside.running }) (record { core = c.self.inside.core; running = c.remove.new.self }) c.call_back.new.self c.args.h c.args.n c.in-Some.taken c.call_back.result
-    refl c.remove.ensures.others c.call_back.ensures)
+    refl c.remove.ensures.others c.call_back.ensures.returns)

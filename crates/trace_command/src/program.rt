@@ -5,20 +5,21 @@ ghost use Rattle.std.specs.Prelude.{◌≡◌};
 use crate::colours::ColourOption;
 use crate::device_options::DeviceOptions;
 use crate::device_strings::print_device;
-use crate::files::{CommandLine, JunitOption};
+use crate::files::{CommandLine, OutputOption};
 use crate::halves::record_one;
 use crate::inserted::folder_of;
 use crate::printed::{Printed, PrintedForm};
 use crate::scenarios::perform_over;
 use crate::statuses::{BAD_WORDS, FAILED, status_of, tell_failure};
 use crate::testing::run_tests;
+use clap::error::ErrorKind;
 use std::alloc::Global;
 use std::fs;
 use std::io::{Read, Write};
 use std::rt::Files;
 use std::sync::Wait;
 use std::thread::Threads;
-use trace_io::{Task, read_words};
+use trace_io::{Fault, Task, read_words};
 use trace_main::trace;
 use trace_recorded::{DeviceChoice, TextReader};
 
@@ -48,6 +49,25 @@ fn print_version<W: Write, E: Write>(out: &mut W, err: &mut E) -> u8 {
     }
 }
 
+/// What the words ask for; None where they are bad or ask for help, which `trace` tells. A fault where memory is refused.
+fn task_of(alloc: Global, words: &[&str]) -> Result<Option<Task>, Fault> {
+    match read_words(alloc, words) {
+        Ok(task) => Ok(Some(task)),
+        Err(error) => match error.kind() {
+            ErrorKind::OutOfMemory => Err(Fault::Memory),
+            _ => Ok(None),
+        },
+    }
+}
+
+/// Tells a fault, and answers its status.
+fn tell_fault<E: Write>(fault: Fault, err: &mut E) -> u8
+    ensures { result ≡ 1 }
+{
+    let _ = fault.tell(err);
+    FAILED
+}
+
 /// Runs the program on its words and an input. Files that a scenario names are looked for in this folder.
 fn run_input<T: Threads + Wait + Sync + Files, R: Read, W: Write, E: Write>(
     rt: &T,
@@ -59,10 +79,10 @@ fn run_input<T: Threads + Wait + Sync + Files, R: Read, W: Write, E: Write>(
     err: &mut E,
 ) -> u8 {
     let words = line.words.as_slice();
-    let asked: Option<Task> = read_words(alloc, words).ok();
-    let status = match asked {
-        Some(task) => perform_over(rt, alloc, words, &task, folder, input, out, err),
-        None => trace(rt, alloc, words, input, out, err),
+    let status = match task_of(alloc, words) {
+        Ok(Some(task)) => perform_over(rt, alloc, words, &task, folder, input, out, err),
+        Ok(None) => trace(rt, alloc, words, input, out, err),
+        Err(fault) => tell_fault(fault, err),
     };
     status_of(status, line.is_lenient)
 }
@@ -78,8 +98,10 @@ fn run_file<T: Threads + Wait + Sync + Files, R: Read, W: Write, E: Write>(
     err: &mut E,
 ) -> u8 {
     let words = line.words.as_slice();
-    let Ok(task) = read_words(alloc, words) else {
-        return run_input(rt, alloc, line, None, input, out, err);
+    let task = match task_of(alloc, words) {
+        Ok(Some(task)) => task,
+        Ok(None) => return run_input(rt, alloc, line, None, input, out, err),
+        Err(fault) => return tell_fault(fault, err),
     };
     let Ok(mut text) = fs::open(rt, file) else {
         return refuse_file(file, err);
@@ -132,8 +154,10 @@ fn perform_described<T: Files, R: Read, W: Write, E: Write>(
     if !devices.is_any() {
         return None;
     }
-    let Ok(Task::Devices(reader)) = read_words(alloc, line.words.as_slice()) else {
-        return None;
+    let reader = match task_of(alloc, line.words.as_slice()) {
+        Ok(Some(Task::Devices(reader))) => reader,
+        Ok(_) => return None,
+        Err(fault) => return Some(tell_fault(fault, err)),
     };
     match devices.tell_choice(rt, alloc, err) {
         Ok(Some(choice)) => Some(run_described(
@@ -190,14 +214,14 @@ fn run_line_tests<T: Threads + Wait + Sync + Files + Alloc + Clone + Drop, W: Wr
     err: &mut E,
 ) -> u8 {
     let junit = match line.junit {
-        JunitOption::Unasked => None,
-        JunitOption::File(file) => Some(file),
-        JunitOption::Bad => return refuse_junit(err),
+        OutputOption::Unasked => None,
+        OutputOption::Into(file) => Some(file),
+        OutputOption::Bad => return refuse_junit(err),
     };
     let pages = match line.html {
-        JunitOption::Unasked => None,
-        JunitOption::File(folder) => Some(folder),
-        JunitOption::Bad => return refuse_html(err),
+        OutputOption::Unasked => None,
+        OutputOption::Into(folder) => Some(folder),
+        OutputOption::Bad => return refuse_html(err),
     };
     if line.is_update && (junit.is_some() || pages.is_some()) {
         return refuse_update(err);

@@ -1,8 +1,8 @@
 //! Memory of the caller's that a transfer reads into.
 
-use crate::bench::{Numbered, PAYLOAD, make_all};
-use crate::stand::both_kinds;
-use crate::told::expect;
+use super::bench::{Numbered, PAYLOAD, make_all};
+use super::stand::both_kinds;
+use super::told::expect;
 use anyhow::{Result, anyhow};
 use example_devices::Reader;
 use std::alloc::Global;

@@ -1,9 +1,9 @@
 //! The beginning of a scenario, of files that are taken; and the faults of others.
 
 use super::inputs::{CONFIGURATION, DEVICE, MANY, TEXT};
-use crate::{DescriptorFault, device_lines};
 use std::alloc::{AllocError, Global};
 use std::test::Fail;
+use trace_descriptor::{DescriptorFault, device_lines};
 use usb_descriptors::DescFault;
 
 /// The comment on the device descriptor.

@@ -1,9 +1,9 @@
 //! Descriptors as a table. The rows are those that the format strings of `lsusb` (usbutils 014) make, without spaces at their ends.
 
 use super::inputs::{CONFIGURATION, DEVICE, MANY};
-use crate::{DescriptorFault, description};
 use std::alloc::{AllocError, Global};
 use std::test::Fail;
+use trace_descriptor::{DescriptorFault, description};
 
 /// The table of the device with one configuration.
 const TABLE: &str = "\

@@ -4,7 +4,7 @@
 use super::inputs::{MANY, TEXT};
 use super::lines::LINES;
 use super::tables::MANY_TABLE;
-use crate::{DescriptorFault, description, device_lines};
+use trace_descriptor::{DescriptorFault, description, device_lines};
 
 /// Whether a text is this one, or memory was wanting.
 fn is_whole(made: Result<Vec<u8>, DescriptorFault>, text: &str) -> bool {

@@ -23,22 +23,25 @@ fn line_of(outcome: &TestOutcome) -> Option<u64> {
     }
 }
 
-/// The path of the page of a file's test: the file's, with each `/` as `_` and without the dots in front, in the folder of all.
+/// The path of the page of a file's test: the file's own below the folder of all. What leads up or nowhere, `..`, `.` and nothing between two
+/// slashes, leads nowhere there.
 fn path_of(alloc: Global, folder: &str, file: &str) -> Result<String, AllocError> {
-    let mut path = String::from_str(alloc, folder)?;
-    if !folder.ends_with('/') {
-        path.push('/')?;
-    }
-    for letter in file.chars().skip_while(|letter| *letter == '.') {
-        path.push(if letter == '/' { '_' } else { letter })?;
+    let mut path = String::from_str(alloc, folder.strip_suffix('/').unwrap_or(folder))?;
+    for name in file.split('/') {
+        if !matches!(name, "" | "." | "..") {
+            path.push('/')?;
+            path.push_str(name)?;
+        }
     }
     path.push_str(".html")?;
     Ok(path)
 }
 
-/// Writes a page into a folder, which is made if it isn't there.
-fn write_into<R: Files>(rt: &R, folder: &str, path: &str, page: &[u8]) -> io::Result<()> {
-    fs::create_dir_all(rt, folder)?;
+/// Writes a page into its folder, which is made if it isn't there.
+fn write_page_to<R: Files>(rt: &R, path: &str, page: &[u8]) -> io::Result<()> {
+    if let Some((folder, _name)) = path.rsplit_once('/') {
+        fs::create_dir_all(rt, folder)?;
+    }
     fs::write(rt, path, page)
 }
 
@@ -65,7 +68,7 @@ impl<W: Write, E: Write> Testing<'_, '_, W, E> {
         let run = shown_run(rt, self.alloc, text, failed.lines())?;
         let page = page(self.alloc, &failed, &run)?;
         let path = path_of(self.alloc, folder, file)?;
-        if write_into(rt, folder, path.as_str(), page.as_slice()).is_err() {
+        if write_page_to(rt, path.as_str(), page.as_slice()).is_err() {
             let _ = write!(self.err, "usbtrace: {path} can't be written\n");
         }
         Ok(())

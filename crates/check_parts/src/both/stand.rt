@@ -1,6 +1,6 @@
 //! A setup of two devices that answer alike: device 0 by its table, device 1 counts too.
 
-use crate::kinds::EitherDevice;
+use super::kinds::EitherDevice;
 use anyhow::Result;
 use example_devices::device;
 use std::alloc::Global;

@@ -1,7 +1,7 @@
 //! Inputs of which only a part can be printed: what is missing is told on standard error.
 
 ghost use Rattle.std.specs.Prelude.{◌≡◌, is_some};
-ghost use Rattle.usbtrace.specs.Status.{half_status};
+ghost use Rattle.trace_command.specs.Status.{half_status};
 
 use crate::input_test::test_input;
 use crate::statuses::{FAILED, half_status, tell_failure};

@@ -77,7 +77,7 @@ impl EitherDevice {
 }
 
 impl Device for EitherDevice {
-    ghost use Rattle.check_devices.specs.declared.kinds.EitherDevice.TheVariants.{Counting, Scripted};
+    ghost use Rattle.check_parts.specs.declared.both.kinds.EitherDevice.TheVariants.{Counting, Scripted};
 
     ghost pipes = { elim [ Scripted d ↦ d | Counting c ↦ c.device ] };
 

@@ -1,7 +1,7 @@
 //! Tests of files, and of the files in folders.
 
 ghost use Rattle.std.specs.Prelude.{◌≡◌, ◌≤◌, false, true};
-ghost use Rattle.usbtrace.specs.Status.{tests_status};
+ghost use Rattle.trace_command.specs.Status.{tests_status};
 
 use crate::bad_line::first_bad_line;
 use crate::expecting::expects_nothing;

@@ -1,7 +1,7 @@
 //! A core of both kinds of device, step by step, with a number for each transfer.
 
-use crate::kinds::EitherDevice;
-use crate::told::add_line;
+use super::kinds::EitherDevice;
+use super::told::add_line;
 use anyhow::{Result, anyhow};
 use std::alloc::Global;
 use usb_core::Core;

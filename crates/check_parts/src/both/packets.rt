@@ -1,9 +1,9 @@
 //! What a device took: bytes that a callback sent in the place of others, and the empty packet behind whole ones.
 
-use crate::bench::{Numbered, make_all};
-use crate::kinds::EitherDevice;
-use crate::stand::both_kinds;
-use crate::told::{expect, is_told};
+use super::bench::{Numbered, make_all};
+use super::kinds::EitherDevice;
+use super::stand::both_kinds;
+use super::told::{expect, is_told};
 use anyhow::{Result, anyhow};
 use example_devices::Reader;
 use std::alloc::{AllocError, Global};

@@ -6,8 +6,8 @@ ghost use Rattle.usb_model.specs.declared.verdict.Rule.TheVariants.{Free};
 ghost use Rattle.usb_model.specs.World.Plans.{is_submission, verdict_of};
 ghost use Rattle.usb_plans.specs.PlanRuns.{is_verdict};
 
-use crate::stand::both_kinds;
-use crate::told::are_told;
+use super::stand::both_kinds;
+use super::told::are_told;
 use anyhow::Result;
 use example_devices::Reader;
 use std::alloc::Global;

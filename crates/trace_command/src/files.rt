@@ -18,28 +18,28 @@ const UPDATE: &str = "--update";
 /// The option that says when colours are wanted.
 const COLOUR: &str = "--color";
 
-/// Whether what came of tests is to be written into a file, or into a folder.
+/// Whether what came of tests is to be written, and into which file or folder.
 #[derive(Clone, Copy)]
-pub enum JunitOption<'a> {
+pub enum OutputOption<'a> {
     /// It isn't.
     Unasked,
     /// Into this one.
-    File(&'a str),
+    Into(&'a str),
     /// The option has no word behind it, or stands there twice.
     Bad,
 }
 
-impl<'a> JunitOption<'a> {
+impl<'a> OutputOption<'a> {
     /// Whether it is asked for.
     pub fn is_asked(&self) -> bool {
-        !matches!(self, JunitOption::Unasked)
+        !matches!(self, OutputOption::Unasked)
     }
 
     /// The option with one more word behind it.
-    fn with(self, word: Option<&'a str>) -> JunitOption<'a> {
+    fn with(self, word: Option<&'a str>) -> OutputOption<'a> {
         match (self, word) {
-            (JunitOption::Unasked, Some(file)) => JunitOption::File(file),
-            _ => JunitOption::Bad,
+            (OutputOption::Unasked, Some(file)) => OutputOption::Into(file),
+            _ => OutputOption::Bad,
         }
     }
 }
@@ -56,9 +56,9 @@ pub struct CommandLine<'a> {
     /// Which device of a capture is meant, and which file says what that lacks.
     pub devices: DeviceOptions<'a>,
     /// Into which file it is written what came of tests.
-    pub junit: JunitOption<'a>,
+    pub junit: OutputOption<'a>,
     /// Into which folder a page is written of each test that fails.
-    pub html: JunitOption<'a>,
+    pub html: OutputOption<'a>,
     /// Whether the lines of tests that differ are rewritten.
     pub is_update: bool,
     /// Whether it is printed as objects of JSON.
@@ -101,8 +101,8 @@ impl<'a> CommandLine<'a> {
             files: Vec::new(alloc),
             is_lenient: false,
             devices: DeviceOptions::new(),
-            junit: JunitOption::Unasked,
-            html: JunitOption::Unasked,
+            junit: OutputOption::Unasked,
+            html: OutputOption::Unasked,
             is_update: false,
             is_json: false,
             colours: ColourOption::Unsaid,

@@ -1,7 +1,7 @@
 //! The statuses with which the program ends.
 
 ghost use Rattle.std.specs.Prelude.{◌≡◌};
-ghost use Rattle.usbtrace.specs.Status.{half_status, lenient_status, tests_status};
+ghost use Rattle.trace_command.specs.Status.{half_status, lenient_status, tests_status};
 
 use std::io;
 use std::io::{ErrorKind, Write};

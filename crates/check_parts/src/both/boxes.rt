@@ -2,8 +2,8 @@
 
 ghost use Rattle.usb_device.specs.Scripts.{Takes};
 
-use crate::kinds::Counter;
-use crate::told::{are_told, expect};
+use super::kinds::Counter;
+use super::told::{are_told, expect};
 use anyhow::{Result, anyhow};
 use example_devices::{Reader, device};
 use std::alloc::{AllocError, Global};
