@@ -5,6 +5,7 @@ is mapped at fixed addresses."""
 import functools
 import resource
 import subprocess
+import sys
 import tempfile
 
 from runs import CONFIG, Part, Tried
@@ -85,11 +86,14 @@ def seconds_of(program, word, text, most):
             source.seek(0)
             before = resource.getrusage(resource.RUSAGE_CHILDREN)
             try:
-                ran = subprocess.run([program, *word.split()], stdin=source, stdout=subprocess.DEVNULL, timeout=most)
+                ran = subprocess.run(
+                    [program, *word.split()], stdin=source, stdout=subprocess.DEVNULL, stderr=subprocess.PIPE, timeout=most
+                )
             except subprocess.TimeoutExpired:
                 return None
             after = resource.getrusage(resource.RUSAGE_CHILDREN)
             if ran.returncode:
+                sys.stderr.buffer.write(ran.stderr)
                 return None
             taken.append(after.ru_utime + after.ru_stime - before.ru_utime - before.ru_stime)
     return min(taken)

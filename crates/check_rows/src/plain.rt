@@ -8,6 +8,7 @@ use std::io::Write;
 use std::result;
 use trace_io::print::print;
 use trace_scenario::{Scenario, read_scenario};
+use trace_test::scenario_text;
 use usb_device::into_setups;
 use usb_model::{Entry, Name, Sequence};
 
@@ -47,13 +48,24 @@ fn entries_of(
     }
 }
 
+/// The scenario of a text: itself, or what the text stands for as a test. None where it isn't read.
+fn scenario_in(alloc: Global, text: &[u8]) -> Option<Scenario> {
+    if let Ok(scenario) = read_scenario(alloc, text) {
+        return Some(scenario);
+    }
+    let Ok(test) = scenario_text(alloc, text) else {
+        return None;
+    };
+    read_scenario(alloc, test.text.as_slice()).ok()
+}
+
 /// Prints what the plain program prints of a row, where the row asks for a run: nothing where the scenario isn't read.
 pub fn print_plain<W: Write>(alloc: Global, row: &Row<'_>, out: &mut W) -> Result<()> {
     let Some(asked) = asked_by(row.words) else {
         return Ok(());
     };
     out.write_all(MARK)?;
-    if let Ok(scenario) = read_scenario(alloc, row.input) {
+    if let Some(scenario) = scenario_in(alloc, row.input) {
         print(alloc, out, entries_of(alloc, scenario, asked)?.as_slice())?;
     }
     Ok(())
