@@ -18,10 +18,10 @@ class Changes(unittest.TestCase):
     """What is to be tried for files that differ."""
 
     def test_a_crate_is_proved_with_all_that_stand_on_it(self) -> None:
-        it = changed.trials(["crates/usb_devicetext/src/sense.rt"])
-        self.assertEqual(it.changed, ["usb_devicetext"])
-        self.assertEqual(it.proved, ["usb_devicetext", "tirnouch_c"])
-        self.assertEqual(it.wrong_bodies, ["usb_devicetext"])
+        it = changed.trials(["crates/usb_living/src/living.rt"])
+        self.assertEqual(it.changed, ["usb_living"])
+        self.assertEqual(it.proved, ["usb_living", "tirnouch_c", "example_flash"])
+        self.assertEqual(it.wrong_bodies, ["usb_living"])
         self.assertEqual(it.rows, [])
         self.assertIn("texts", it.scenes)
 
@@ -62,10 +62,10 @@ class Changes(unittest.TestCase):
         self.assertEqual(changed.lines(changed.trials([])), ["nothing that is tried differs"])
 
     def test_what_is_printed(self) -> None:
-        told = changed.lines(changed.trials(["crates/usb_devicetext/src/sense.rt"]))
-        self.assertRegex(told[0], r"^prove 2 crates, some \d+ processor minutes; these differ: usb_devicetext$")
-        self.assertEqual(told[1], "    tools/prove usb_devicetext tirnouch_c")
-        self.assertIn("    tools/wrong_bodies.py try usb_devicetext", told)
+        told = changed.lines(changed.trials(["crates/usb_living/src/living.rt"]))
+        self.assertRegex(told[0], r"^prove 3 crates, some \d+ processor minutes; these differ: usb_living$")
+        self.assertEqual(told[1], "    tools/prove usb_living tirnouch_c example_flash")
+        self.assertIn("    tools/wrong_bodies.py try usb_living", told)
         self.assertIn("    make c-test", told)
 
     def test_each_crate_that_has_words_is_there(self) -> None:
