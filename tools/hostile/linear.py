@@ -16,8 +16,8 @@ GATE_LENGTHS, LENGTHS = (256, 1024), (8192, 32768)
 MOST_GROWTH, MOST_OF_RUN = 10.0, 4.0
 # `test` makes what it prints, what is left and what was written by a run each.
 MOST_OF_RUN_OF = {"test": 6.0}
-# How many runs there are of each, and how many times the seconds of a run they may take; how long a run takes that does nothing.
-TIMES, SLOW, START = 3, 10, 0.01
+# How many runs there are of each, and how many times the seconds of a run they may take; the least that is taken for work, in seconds.
+TIMES, SLOW, LEAST = 5, 10, 0.01
 BEGUN = f"device 0 {CONFIG}\n"
 HELD = "open 1 0\nclaim 1 0\n"
 
@@ -99,11 +99,11 @@ def seconds_of(program, word, text, most):
     return min(taken)
 
 
-def told(name, word, taken, beside):
-    """What a word took of two texts, beside what `run` took of them: whether it is as wanted, and in words."""
-    if None in (*taken, *beside):
-        return False, f"{word}: {name}: a run doesn't end well: {taken}, {beside}"
-    growth, of_run = (taken[1] - START) / max(taken[0] - START, START), taken[1] / beside[1]
+def told(name, word, taken, beside, start):
+    """What a word took of two texts, beside what `run` took of them and of none: whether it is as wanted, and in words."""
+    if None in (*taken, *beside, start):
+        return False, f"{word}: {name}: a run doesn't end well: {taken}, {beside}, {start}"
+    growth, of_run = (taken[1] - start) / max(taken[0] - start, LEAST), taken[1] / beside[1]
     text = f"{word}: {name}: {growth:.1f} times the time for four times the text, and {of_run:.1f} times that of run"
     return growth <= MOST_GROWTH and of_run <= MOST_OF_RUN_OF.get(word, MOST_OF_RUN), text
 
@@ -113,7 +113,7 @@ def tried(runs, name, word, lengths):
     counted = functools.partial(seconds_of, runs.program, most=SLOW * runs.seconds)
     taken = [counted(word, text_of(it)) for it in lengths]
     beside = [counted("run", run_text_of(it)) for it in lengths]
-    is_right, text = told(name, word, taken, beside)
+    is_right, text = told(name, word, taken, beside, counted("run", ""))
     yield Tried("linear" if is_right else "wrong", text)
 
 
