@@ -8,7 +8,7 @@ use crate::errno::Errno;
 use crate::identity::UrbId;
 use usb_model::{Bytes, DeviceNo, EpAddr, Kind, Request};
 
-/// What happened to a transfer (Linux, Documentation/usb/usbmon.rst, "CaptureEvent Type").
+/// What happened to a transfer (Linux, Documentation/usb/usbmon.rst, "Event Type").
 #[derive(Clone, Copy, PartialEq, Eq, Debug)]
 pub enum EventType {
     /// It was submitted.
