@@ -11,7 +11,7 @@ use std::alloc::AllocError;
 use std::sync::Wait;
 use usb_core::Taken;
 use usb_device::Device;
-use usb_journal::{Naming, RecordError, Recorder, Row};
+use usb_journal::{Naming, Past, RecordError, Recorder, Row};
 use usb_library::{Answered, Caller, Library, Submitted};
 use usb_model::{Bytes, DeviceNo, EpAddr, Name, Refused, Request, Step};
 use usb_workers::make;
@@ -22,6 +22,8 @@ pub struct Board<'a, R, L: Naming, P, D: Device, J: Recorder> {
     pub rt: &'a R,
     pub library: &'a Library<L, P, D, J>,
     pub caller: &'a mut Caller<L>,
+    /// What was seen of the journal, which looks and rows have to begin with.
+    past: Past<L>,
 }
 
 /// Whether a call was granted. No memory is a refusal as others are.
@@ -40,7 +42,22 @@ fn number<L: Naming, G: Drop, P: Drop>(
     }
 }
 
-impl<R: Wait, L: Naming, P: Drop, D: Device, J: Recorder> Board<'_, R, L, P, D, J> {
+impl<'a, R: Wait, L: Naming, P: Drop, D: Device, J: Recorder> Board<'a, R, L, P, D, J> {
+    /// A caller at a library.
+    pub fn new(
+        rt: &'a R,
+        library: &'a Library<L, P, D, J>,
+        caller: &'a mut Caller<L>,
+    ) -> Board<'a, R, L, P, D, J> {
+        let past = library.past(rt, caller);
+        Board {
+            rt,
+            library,
+            caller,
+            past,
+        }
+    }
+
     /// Makes a step of a handle's that submits nothing.
     pub fn make(&mut self, step: Step) -> Result<(), Refused> {
         match make(self.rt, self.library, self.caller, step) {
@@ -116,7 +133,7 @@ impl<R: Wait, L: Naming, P: Drop, D: Device, J: Recorder> Board<'_, R, L, P, D, 
 
     /// It is so many milliseconds after the beginning.
     pub fn tick(&mut self, now: u64) -> Result<(), Refused> {
-        match self.library.tick(self.rt, self.caller, now) {
+        match self.library.tick(self.rt, self.caller, &mut self.past, now) {
             Ok(_) => Ok(()),
             Err(_) => Err(Refused::NoMem),
         }
@@ -130,7 +147,9 @@ impl<R: Wait, L: Naming, P: Drop, D: Device, J: Recorder> Board<'_, R, L, P, D, 
 
     /// Events are handled in a row, at most so many.
     pub fn deliver_all(&mut self, most: u32) -> Result<Row, Refused> {
-        let row = self.library.deliver_all(self.rt, self.caller, most);
+        let row = self
+            .library
+            .deliver_all(self.rt, self.caller, &mut self.past, most);
         row.map_err(no_memory)
     }
 
@@ -138,7 +157,10 @@ impl<R: Wait, L: Naming, P: Drop, D: Device, J: Recorder> Board<'_, R, L, P, D, 
     pub fn take_all(&mut self, most: u32, taken: &mut Vec<Taken<P>>) -> Result<Row, Refused>
         requires { taken.old.items ≡ [] }
     {
-        match self.library.take_all(self.rt, self.caller, most, taken) {
+        match self
+            .library
+            .take_all(self.rt, self.caller, &mut self.past, most, taken)
+        {
             Ok(outgoing) => Ok(outgoing.row),
             Err(_) => Err(Refused::NoMem),
         }
@@ -150,7 +172,8 @@ impl<R: Wait, L: Naming, P: Drop, D: Device, J: Recorder> Board<'_, R, L, P, D, 
     }
 
     /// Whether there is something to serve.
-    pub fn has_packet(&self) -> bool {
-        self.library.pending(self.rt).serve.is_some()
+    pub fn has_packet(&mut self) -> bool {
+        let pending = self.library.pending(self.rt, self.caller, &mut self.past);
+        pending.serve.is_some()
     }
 }

@@ -110,11 +110,7 @@ fn made<L: Naming, R: Wait>(
     calls: &[Call],
 ) -> Result<Single> {
     let mut single = Single::new(alloc)?;
-    let mut board = Board {
-        rt,
-        library,
-        caller,
-    };
+    let mut board = Board::new(rt, library, caller);
     single.make_all(&mut board, calls)?;
     Ok(single)
 }

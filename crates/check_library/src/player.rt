@@ -48,11 +48,7 @@ impl<'a> Driver<SceneCallback<'a>> for Player<'a> {
         caller: &mut Caller<L>,
     ) -> Result<Vec<Reply>, AllocError> {
         let mut replies = Vec::new(self.alloc);
-        let mut board = Board {
-            rt,
-            library,
-            caller,
-        };
+        let mut board = Board::new(rt, library, caller);
         for act in self.acts {
             self.play(&mut board, *act, &mut replies)?;
         }

@@ -108,11 +108,7 @@ fn thread<R: Wait, L: Naming, J: Recorder>(
 ) -> Result<u64> {
     let mut caller = caller;
     let reader = Reader::new(h, h.saturating_sub(1), 0)?;
-    let mut board = Board {
-        rt,
-        library,
-        caller: &mut caller,
-    };
+    let mut board = Board::new(rt, library, &mut caller);
     Ok(board.all(&reader, turns)?)
 }
 

@@ -5,7 +5,7 @@ use example_devices::{Reader, no_memory, open_and_claim, submit};
 use std::sync::{Arc, Wait};
 use std::thread;
 use std::time::{Clock, Duration};
-use tirnouch::{Caller, Device, Driver, Library, Moments, Naming, Recorder, Refused};
+use tirnouch::{Caller, Device, Driver, Library, Moments, Naming, Past, Recorder, Refused};
 
 /// How many bytes a reading has.
 const BYTES: u32 = 8;
@@ -72,9 +72,10 @@ fn tell<L: Naming, D: Device, J: Recorder, R: Wait>(
     rt: &R,
     library: &Library<L, Reading, D, J>,
     caller: &mut Caller<L>,
+    past: &mut Past<L>,
     now: u64,
 ) -> Result<(), Refused> {
-    match library.tick(rt, caller, now) {
+    match library.tick(rt, caller, past, now) {
         Ok(_) => Ok(()),
         Err(_) => Err(Refused::NoMem),
     }
@@ -96,11 +97,12 @@ fn tick<L: Naming, D: Device, J: Recorder, K: Clock, R: Wait>(
     let Ok(moments) = Moments::start(clock) else {
         return Err(Refused::NotSupported);
     };
+    let mut past = library.past(rt, caller);
     for _ in 0..TICKS {
         if readings.called() == TIMEOUTS.len() as u64 {
             break;
         }
-        tell(rt, library, caller, passed(&moments, clock))?;
+        tell(rt, library, caller, &mut past, passed(&moments, clock))?;
         thread::sleep(clock, Duration::from_millis(TICK));
     }
     Ok(())

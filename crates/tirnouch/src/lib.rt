@@ -59,7 +59,8 @@
 //! - **Callbacks**: `StoredCallback::once` and `StoredCallback::repeat`; a `Verdict` ends the transfer or submits it once more.
 //! - **The workers**: `controller_loop` and `event_loop`, with `Open` as their gate, go by rows of at most `BURST` steps; `Moments`
 //!   reads a clock for `Library::tick`. Who works without them calls `serve_all`, `deliver_all` and `take_all`, each of which tells
-//!   its places as a `Row`, the last with whether memory was refused to one behind them (`Outgoing`).
+//!   its places as a `Row`, the last with whether memory was refused to one behind them (`Outgoing`). What tells what there is to do
+//!   (`work`, `events`, `pending`, `tick` and these rows) takes a `Past`, which `Library::past` gives: it isn't an old answer.
 //! - **All of it in one call**: `live` makes the library, runs both workers and each `Driver` in a thread, joins them, and ends it.
 #![tactic(auto)]
 
@@ -69,7 +70,7 @@ pub use usb_core::{
 pub use usb_descriptors::{Config, read_config};
 pub use usb_device::{BoxedDevice, Device, TableDevice};
 pub use usb_journal::{
-    Journal, Naming, Outgoing, Place, Receipt, RecordError, Recorder, Row, Unrecorded,
+    Journal, Naming, Outgoing, Past, Place, Receipt, RecordError, Recorder, Row, Unrecorded,
 };
 pub use usb_library::{
     Answered, CALLERS, Caller, Ended, Library, MissingCallers, Opening, Submitted,

@@ -34,6 +34,11 @@ abbrev pub seen_by : List (ℕ × List Place) → List Place
 seen_by [] = []
 seen_by (p ∷ ps) = p.1
 
+-- the first of what was seen once
+abbrev pub first_of : List (List Place) → List Place
+first_of [] = []
+first_of (p ∷ ps) = p
+
 -- a log: its places, and the recorder that was told them
 pub record Logged (J : Type 0) : Type 0 where
   pub journal : List Place

@@ -6,13 +6,14 @@ ghost use Rattle.usb_model.specs.declared.step.Step.TheVariants.{Command, Delive
 ghost use Rattle.usb_core.specs.Public.{Carries, IsPending, Kept, does_something, setup_of};
 ghost use Rattle.usb_receipts.specs.Tokens.{new_keeper};
 ghost use Rattle.usb_journal.specs.Booked.{HasEvents, IsRun, Looks, world_where};
+ghost use Rattle.usb_receipts.specs.Rule.{BeginsWith};
 
 use crate::closed::Closing;
 use crate::events::Events;
 use crate::log::Log;
 use crate::naming::Naming;
 use crate::place::PlaceImage;
-use crate::position::Position;
+use crate::position::{Past, Position};
 use crate::receipt::Receipt;
 use crate::recorder::Recorder;
 use crate::timer::Timer;
@@ -126,24 +127,41 @@ impl<L: Naming, P, D: Device, J: Recorder> JournaledCore<L, P, D, J> {
         self.log.position(share)
     }
 
+    /// What was seen for a position.
+    pub fn remember(&self, position: &mut Position<L>) -> Past<L>
+        ensures same { position.new ≡ position.old }
+        ensures past { result ≡ position.old.seen }
+    {
+        self.log.remember(position)
+    }
+
     /// A position is moved to the end of the journal, and what is to be done next is looked for, from behind this endpoint on: in the
     /// world where the run of all that it has seen ends. Takes no memory.
-    pub fn look(&mut self, position: &mut Position<L>, after: Option<(DeviceNo, EpAddr)>) -> Pending
+    pub fn look(
+        &mut self,
+        position: &mut Position<L>,
+        past: &mut Past<L>,
+        after: Option<(DeviceNo, EpAddr)>,
+    ) -> Pending
         ensures pending { IsPending L.setup (world_where L.setup position.new.seen) after result }
         ensures looks { Looks L.setup position.old position.new }
+        ensures behind { BeginsWith past.old position.new.seen }
+        ensures past { past.new ≡ position.new.seen }
         ensures same { self.new ≡ self.old }
     {
-        self.log.look(position);
+        self.log.look_behind(position, past);
         self.core.pending(after)
     }
 
     /// The same, and whether an event waits to be handled, and whether a result waits to go out, there.
-    pub fn look_for_events(&mut self, position: &mut Position<L>) -> Events
+    pub fn look_for_events(&mut self, position: &mut Position<L>, past: &mut Past<L>) -> Events
         ensures events { HasEvents L.setup position.new.seen result }
         ensures looks { Looks L.setup position.old position.new }
+        ensures behind { BeginsWith past.old position.new.seen }
+        ensures past { past.new ≡ position.new.seen }
         ensures same { self.new ≡ self.old }
     {
-        self.log.look(position);
+        self.log.look_behind(position, past);
         Events {
             deliver: self.core.has_event(),
             take: self.core.has_result(),

@@ -90,7 +90,7 @@ pub use events::Events;
 pub use journal::{Draft, Journal};
 pub use naming::Naming;
 pub use place::{Place, PlaceImage};
-pub use position::Position;
+pub use position::{Past, Position};
 pub use receipt::Receipt;
 pub use record::RecordError;
 pub use recorder::{Recorder, Unrecorded};

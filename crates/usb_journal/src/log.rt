@@ -10,7 +10,7 @@ ghost use Rattle.usb_journal.specs.Seen.{claims_of, positioned};
 use crate::kept::sent_by;
 use crate::naming::Naming;
 use crate::place::PlaceImage;
-use crate::position::Position;
+use crate::position::{Past, Position};
 use crate::receipt::Receipt;
 use crate::recorder::Recorder;
 use std::alloc::{AllocError, Global};
@@ -98,6 +98,31 @@ impl<L: Naming, J: Recorder> Log<L, J> {
         ensures same { self.new ≡ self.old }
     {
         self.log.look(&mut self.keeper, &mut position.position);
+    }
+
+    /// What was seen for a position, which is left as it was.
+    pub(crate) fn remember(&self, position: &mut Position<L>) -> Past<L>
+        ensures same { position.new ≡ position.old }
+        ensures past { result ≡ position.old.seen }
+    {
+        Past {
+            past: self.log.remember(&mut position.position),
+            library: PhantomData,
+        }
+    }
+
+    /// The same as `look`; and the journal began with what anybody saw once.
+    pub(crate) fn look_behind(&mut self, position: &mut Position<L>, past: &mut Past<L>)
+        ensures position { position.new ≡ positioned position.old.number self.old.journal }
+        ensures own { position.new.own ≡ position.old.own }
+        ensures began { BeginsWith position.old.seen self.old.journal }
+        ensures behind { BeginsWith past.old self.old.journal }
+        ensures past { past.new ≡ self.old.journal }
+        ensures above { position.old.position ≤ length self.old.journal }
+        ensures same { self.new ≡ self.old }
+    {
+        self.log
+            .look_behind(&mut self.keeper, &mut position.position, &mut past.past);
     }
 
     /// Makes room for so many more places, with so many bytes in all. The last number of a place is 2^64 - 2.

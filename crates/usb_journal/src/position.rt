@@ -4,7 +4,7 @@ ghost use Rattle.std.specs.Prelude.{◌≡◌, length};
 
 use crate::naming::Naming;
 use crate::place::PlaceImage;
-use std::marker::Model;
+use std::marker::{Model, PhantomData};
 use std::sync::ledger::Share;
 
 /// The number of its bearer, which no other has; what the journal began with when the position was last moved; and which of that are
@@ -42,4 +42,25 @@ impl<L: Naming> Position<L> {
         let Position { share, .. } = self;
         share
     }
+}
+
+/// What some caller saw of the journal once: it began so, whoever has this, and for good. It has no bytes: whoever is lent it can't tell
+/// how much that is, and so has to look at all of the journal to show that it begins so.
+#[derive(Drop)]
+pub struct Past<L: Naming> {
+    pub(crate) past: usb_receipts::Past<PlaceImage>,
+    pub(crate) library: PhantomData<L>,
+}
+
+/// Contracts see the places.
+impl<L: Naming> Model for Past<L> {
+    ghost use Rattle.std.specs.Prelude.{◌≡◌, List, [], ◌∷◌};
+    ghost use Rattle.usb_journal.specs.declared.place.Place.{Place};
+    ghost use Rattle.usb_journal.specs.Seen.{first_of};
+
+    ghost Value = { List Place };
+
+    ghost view = { λ p. first_of p.past.pasts };
+
+    ghost invariant = { λ p. (p.past.log ≡ L.table) × (p.past.pasts ≡ first_of p.past.pasts ∷ []) };
 }

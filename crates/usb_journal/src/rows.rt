@@ -6,6 +6,7 @@ ghost use Rattle.usb_model.specs.Setup.{Setup};
 ghost use Rattle.usb_model.specs.World.{World};
 ghost use Rattle.usb_model.specs.World.Journal.{run_from};
 ghost use Rattle.usb_core.specs.Public.{Carries, Kept, ShowsWorld, StillCarries, burst_entries, called_entry, does_something, whole_entries};
+ghost use Rattle.usb_receipts.specs.Rule.{BeginsWith};
 ghost use Rattle.usb_journal.specs.Booked.{IsSame, Replays, entries_of, world_where};
 ghost use Rattle.usb_journal.specs.Entered.{DoesRow, IsRow, StandsIn, TakesRow};
 ghost use Rattle.usb_journal.specs.Records.{bytes_in};
@@ -14,7 +15,7 @@ ghost use Rattle.usb_journal.specs.Rows.{AreKept, EntersRow, GoOn, MayStop, MayS
 use crate::book::JournaledCore;
 use crate::log::Log;
 use crate::naming::Naming;
-use crate::position::Position;
+use crate::position::{Past, Position};
 use crate::recorder::Recorder;
 use std::alloc::AllocError;
 use usb_core::{Burst, Core, Taken};
@@ -99,19 +100,23 @@ impl<L: Naming, P, D: Device, J: Recorder> JournaledCore<L, P, D, J> {
     }
 
     /// The oldest events are handled (xHCI 1.2, 4.11.3), as many as there are and at most so many, at the next places of the
-    /// journal. Where memory is wanting nothing changed.
+    /// journal, which begins with `past`. That then has all that the position has seen. Where memory is wanting nothing changed.
     pub fn deliver_all(
         &mut self,
         most: u32,
         position: &mut Position<L>,
+        past: &mut Past<L>,
     ) -> Result<Delivered, AllocError>
         ensures made { IfOk result (λ x. EntersRow (replicate x.row.count Deliver) self.old position.old x.row self.new position.new) }
         ensures few { IfOk result (λ x. x.row.count ≤ most) }
         ensures ends { IfOk result (λ x. x.row.count < most → does_something self.old.setup (world_where self.old.setup self.new.journal) Deliver ≡ false) }
+        ensures behind { OnOk result (BeginsWith past.old self.new.journal) }
+        ensures past { OnOk result (past.new ≡ position.new.seen) }
         ensures quiet { IfOk result (λ x. x.quiet ≡ are_quiet self.old.setup (world_where self.old.setup self.old.journal) x.row.count) }
         ensures library { self.old.setup ≡ L.setup }
         ensures carries { StillCarries self.old.core self.new.core }
         ensures err { OnErr result (IsSame self.old self.new × (position.new ≡ position.old)) }
+        ensures kept { OnErr result (past.new ≡ past.old) }
     {
         self.log.reserve(most as usize, 0)?;
         self.log.look(position);
@@ -123,7 +128,7 @@ impl<L: Naming, P, D: Device, J: Recorder> JournaledCore<L, P, D, J> {
             ..
         } = self;
         let (count, quiet) = deliver_each(core, log, position, *moment, most);
-        log.look(position);
+        log.look_behind(position, past);
         Ok(Delivered {
             row: Row {
                 first,
@@ -135,12 +140,14 @@ impl<L: Naming, P, D: Device, J: Recorder> JournaledCore<L, P, D, J> {
 
     /// The oldest results go out to their callbacks (libusb 1.0, `libusb_transfer_cb_fn`), at most so many, at the next places
     /// of the journal, and stand in `taken`, in order, each with the payload of its transfer. They are fewer only where no more
-    /// wait, or memory is refused to one: then they are those before it. Where it is refused to the first, nothing changed.
+    /// wait, or memory is refused to one: then they are those before it. The journal begins with `past`, which then has all that
+    /// the position has seen. Where memory is refused to the first, nothing changed.
     pub fn take_all(
         &mut self,
         most: u32,
         taken: &mut Vec<Taken<P>>,
         position: &mut Position<L>,
+        past: &mut Past<L>,
     ) -> Result<Outgoing, AllocError>
         requires empty { taken.old.items ≡ [] }
         ensures made { IfOk result (λ x. EntersRow (replicate x.row.count Take) self.old position.old x.row self.new position.new) }
@@ -148,19 +155,22 @@ impl<L: Naming, P, D: Device, J: Recorder> JournaledCore<L, P, D, J> {
         ensures few { IfOk result (λ x. x.row.count ≤ most) }
         ensures ends { IfOk result (λ x. x.lacked ≡ false → x.row.count < most → does_something self.old.setup (world_where self.old.setup self.new.journal) Take ≡ false) }
         ensures lacks { IfOk result (λ x. x.lacked ≡ true → (0 < x.row.count) × (x.row.count < most) × (does_something self.old.setup (world_where self.old.setup self.new.journal) Take ≡ true)) }
+        ensures behind { OnOk result (BeginsWith past.old self.new.journal) }
+        ensures past { OnOk result (past.new ≡ position.new.seen) }
         ensures library { self.old.setup ≡ L.setup }
         ensures carries { (kept : Kept P) → Carries kept self.old.core → AreKept kept taken.new.items × Carries kept self.new.core }
         ensures err { OnErr result (IsSame self.old self.new × (position.new ≡ position.old) × (taken.new.items ≡ [])) }
+        ensures kept { OnErr result (past.new ≡ past.old) }
     {
         let first = self.log.len();
         if most == 0 || !self.has_result() {
-            self.log.look(position);
+            self.log.look_behind(position, past);
             let row = Row { first, count: 0 };
             return Ok(Outgoing { row, lacked: false });
         }
         self.take_next(taken, position)?;
         let (more, lacked) = self.take_more(most - 1, taken, position);
-        self.log.look(position);
+        self.log.look_behind(position, past);
         let count = u64::from(more) + 1;
         let row = Row { first, count };
         Ok(Outgoing { row, lacked })

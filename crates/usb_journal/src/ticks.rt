@@ -8,12 +8,13 @@ ghost use Rattle.usb_model.specs.World.Due.{due};
 ghost use Rattle.usb_core.specs.Public.{ShowsWorld, StillCarries};
 ghost use Rattle.usb_journal.specs.Booked.{IsSame, Replays, Sees, asked, asks, dated};
 ghost use Rattle.usb_journal.specs.Seen.{receipts_from};
+ghost use Rattle.usb_receipts.specs.Rule.{BeginsWith};
 ghost use Rattle.usb_journal.specs.Timers.{by_name, expires, is_over, timers_of};
 
 use crate::book::JournaledCore;
 use crate::log::Log;
 use crate::naming::Naming;
-use crate::position::Position;
+use crate::position::{Past, Position};
 use crate::receipt::Receipt;
 use crate::recorder::Recorder;
 use crate::timer::Timer;
@@ -25,10 +26,12 @@ use usb_model::{Entry, Step};
 impl<L: Naming, P, D: Device, J: Recorder> JournaledCore<L, P, D, J> {
     /// Moves the moment on to `now`, in milliseconds, or leaves it where it is later. Then makes one Expire for each
     /// transfer that is due (libusb 1.0, `libusb_transfer`, `timeout`), by rising name and number, at consecutive
-    /// places. Where memory is wanting nothing changed.
+    /// places. The journal began with `past`, which then has all that the position has seen. Where memory is wanting
+    /// nothing changed.
     pub fn tick(
         &mut self,
         position: &mut Position<L>,
+        past: &mut Past<L>,
         now: u64,
     ) -> Result<Vec<Receipt<L>>, AllocError>
         ensures receipts { IfOk result (λ rs. rs.items ≡ receipts_from (length self.old.journal) (drop (length self.old.journal) self.new.journal)) }
@@ -38,20 +41,24 @@ impl<L: Naming, P, D: Device, J: Recorder> JournaledCore<L, P, D, J> {
         ensures own { OnOk result (position.new.own ≡ position.old.own ++ drop (length self.old.journal) self.new.journal) }
         ensures number { OnOk result (position.new.number ≡ position.old.number) }
         ensures saw { OnOk result (Sees position.old self.old.journal position.new self.new.journal) }
+        ensures behind { OnOk result (BeginsWith past.old self.old.journal) }
+        ensures past { OnOk result (past.new ≡ position.new.seen) }
         ensures setup { self.new.setup ≡ self.old.setup }
         ensures library { self.old.setup ≡ L.setup }
         ensures carries { StillCarries self.old.core self.new.core }
         ensures err { OnErr result (IsSame self.old self.new × (position.new ≡ position.old)) }
+        ensures kept { OnErr result (past.new ≡ past.old) }
     {
         let caller = position.number();
         let later = self.moment.max(now);
         let due = due_now(self.alloc, &self.core, &self.timers, later)?;
         let mut receipts = Vec::with_capacity(self.alloc, due.len())?;
         self.log.reserve(due.len(), 0)?;
-        self.log.look(position);
+        self.log.look_behind(position, past);
         self.moment = later;
         let JournaledCore { core, log, .. } = self;
         expire_all(core, log, position, caller, later, &due, &mut receipts);
+        *past = log.remember(position);
         Ok(receipts)
     }
 }

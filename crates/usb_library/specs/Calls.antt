@@ -86,7 +86,7 @@ pub record Knows (journal : List Place) (c : Calling) : Type 0 where
   pub began : BeginsWith c.seen journal
 
 -- time is moved on to now, or it is later: one Expire for each transfer that is due then, at consecutive places behind the journal so far, which are the caller's last
-pub record Ticks (setup : Setup) (now : ℕ) (old : Calling) (given : List Receipted) (new : Calling) : Type 0 where
+pub record Ticks (setup : Setup) (now : ℕ) (past : List Place) (old : Calling) (given : List Receipted) (new : Calling) : Type 0 where
   pub before : List Place
   pub moment : ℕ
   pub places : List Place
@@ -96,6 +96,7 @@ pub record Ticks (setup : Setup) (now : ℕ) (old : Calling) (given : List Recei
   pub own : new.own ≡ old.own ++ places
   pub number : new.number ≡ old.number
   pub missed : new.missed ≡ old.missed
+  pub behind : BeginsWith past before
   pub began : BeginsWith old.seen before
   pub saw : new.seen ≡ before ++ places
 
@@ -141,10 +142,6 @@ LacksWork setup seen = (look : Pending) × ShowsPending setup seen look × (has_
 -- a look shows neither an event nor a result
 abbrev pub LacksEvents : Setup → List Place → Type 0
 LacksEvents setup seen = (look : Events) × ShowsEvents setup seen look × (has_events look ≡ false)
-
--- what was to be done at some moment of a library over these devices: by the world where the run of its steps so far ended
-abbrev pub WasPending : Setup → Pending → Type 0
-WasPending setup pending = (journal : List Place) × (after : Option (ℕ × ℕ)) × IsRun setup journal × IsPending setup (world_where setup journal) after pending
 
 -- why a step was refused
 abbrev pub refusal : Reply → Option Refused

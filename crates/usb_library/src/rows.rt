@@ -4,11 +4,12 @@
 //! many steps it makes at most is its caller's to say: so long others wait for the lock. An error is want of memory: then
 //! nothing changed, and nothing is left of the call.
 
-ghost use Rattle.std.specs.Prelude.{◌≡◌, ◌<◌, ◌≤◌, [], false, true, IfOk, OnErr, Some, map, max, replicate};
+ghost use Rattle.std.specs.Prelude.{◌≡◌, ◌<◌, ◌≤◌, [], false, true, IfOk, OnErr, OnOk, Some, map, max, replicate};
 ghost use Rattle.usb_model.specs.declared.step.Step.TheVariants.{Deliver, Serve, Take};
 ghost use Rattle.usb_core.specs.Public.{called_entry, does_something};
 ghost use Rattle.usb_journal.specs.Booked.{world_where};
 ghost use Rattle.usb_journal.specs.Rows.{GoOn, MayStopBehind};
+ghost use Rattle.usb_receipts.specs.Rule.{BeginsWith};
 ghost use Rattle.usb_library.specs.Calls.{MakesRow, misses, row_entries};
 ghost use Rattle.usb_library.specs.Wakes.{WakesSince};
 
@@ -19,7 +20,7 @@ use std::alloc::AllocError;
 use std::sync::Wait;
 use usb_core::Taken;
 use usb_device::Device;
-use usb_journal::{Naming, Outgoing, Recorder, Row};
+use usb_journal::{Naming, Outgoing, Past, Recorder, Row};
 use usb_model::{DeviceNo, EpAddr};
 
 impl<L: Naming, P: Drop, D: Device, J: Recorder> Library<L, P, D, J> {
@@ -54,19 +55,26 @@ impl<L: Naming, P: Drop, D: Device, J: Recorder> Library<L, P, D, J> {
     }
 
     /// The oldest events are handled (xHCI 1.2, 4.11.3; libusb 1.0, `libusb_handle_events`), as many as there are and at most so
-    /// many.
+    /// many. The journal begins with `past`, which then has all that the caller has seen: so "there are none" isn't an old answer.
     pub fn deliver_all<R: Wait>(
         &self,
         rt: &R,
         caller: &mut Caller<L>,
+        past: &mut Past<L>,
         most: u32,
     ) -> Result<Row, AllocError>
         ensures made { IfOk result (λ row. MakesRow L.setup (replicate row.count Deliver) caller.old row caller.new) }
         ensures few { IfOk result (λ row. row.count ≤ most) }
         ensures ends { IfOk result (λ row. row.count < most → does_something L.setup (world_where L.setup caller.new.seen) Deliver ≡ false) }
+        ensures behind { OnOk result (BeginsWith past.old caller.new.seen) }
+        ensures past { OnOk result (past.new ≡ caller.new.seen) }
         ensures refused { OnErr result (caller.new ≡ misses caller.old) }
+        ensures kept { OnErr result (past.new ≡ past.old) }
     {
-        let made = self.lock(rt).book.deliver_all(most, &mut caller.position);
+        let made = self
+            .lock(rt)
+            .book
+            .deliver_all(most, &mut caller.position, past);
         let delivered = caller.counted(made)?;
         let work = if delivered.quiet {
             Work::None
@@ -80,11 +88,12 @@ impl<L: Naming, P: Drop, D: Device, J: Recorder> Library<L, P, D, J> {
     /// The oldest results go out to their callbacks, at most so many, and stand in `taken`, in order, each with what was kept
     /// with its transfer (libusb 1.0, `libusb_transfer_cb_fn`): whoever takes them calls these, with no lock held, and tells
     /// the verdict of each. They are fewer only where no more wait, or memory is refused to one: then they are those before it. It is
-    /// an error only where that is the first.
+    /// an error only where that is the first. `past` is as with `deliver_all`.
     pub fn take_all<R: Wait>(
         &self,
         rt: &R,
         caller: &mut Caller<L>,
+        past: &mut Past<L>,
         most: u32,
         taken: &mut Vec<Taken<P>>,
     ) -> Result<Outgoing, AllocError>
@@ -94,12 +103,15 @@ impl<L: Naming, P: Drop, D: Device, J: Recorder> Library<L, P, D, J> {
         ensures few { IfOk result (λ x. x.row.count ≤ most) }
         ensures ends { IfOk result (λ x. x.lacked ≡ false → x.row.count < most → does_something L.setup (world_where L.setup caller.new.seen) Take ≡ false) }
         ensures lacks { IfOk result (λ x. x.lacked ≡ true → (0 < x.row.count) × (x.row.count < most) × (does_something L.setup (world_where L.setup caller.new.seen) Take ≡ true)) }
+        ensures behind { OnOk result (BeginsWith past.old caller.new.seen) }
+        ensures past { OnOk result (past.new ≡ caller.new.seen) }
         ensures refused { OnErr result ((caller.new ≡ misses caller.old) × (taken.new.items ≡ [])) }
+        ensures kept { OnErr result (past.new ≡ past.old) }
     {
         let made = self
             .lock(rt)
             .book
-            .take_all(most, taken, &mut caller.position);
+            .take_all(most, taken, &mut caller.position, past);
         let outgoing = caller.counted(made)?;
         self.wake_row(rt, caller, outgoing.row, Work::None);
         Ok(outgoing)

@@ -1,6 +1,6 @@
 //! The calls that submit transfers, and those that end them.
 
-ghost use Rattle.std.specs.Prelude.{◌≡◌, IfErr, IfOk, OnErr, option_map};
+ghost use Rattle.std.specs.Prelude.{◌≡◌, IfErr, IfOk, OnErr, OnOk, option_map};
 ghost use Rattle.usb_model.specs.declared.step.Step.TheVariants.{Answer, Submit, Take};
 ghost use Rattle.usb_model.specs.declared.verdict.Verdict.TheVariants.{Again, AgainWith, Stop};
 ghost use Rattle.usb_core.specs.Public.{called_entry};
@@ -15,7 +15,7 @@ use std::alloc::AllocError;
 use std::sync::Wait;
 use usb_core::Taken;
 use usb_device::Device;
-use usb_journal::{Naming, Receipt, RecordError, Recorder};
+use usb_journal::{Naming, Past, Receipt, RecordError, Recorder};
 use usb_model::{Bytes, Name, Request};
 
 impl<L: Naming, P: Drop, D: Device, J: Recorder> Library<L, P, D, J> {
@@ -156,17 +156,21 @@ impl<L: Naming, P: Drop, D: Device, J: Recorder> Library<L, P, D, J> {
 
     /// Time passes (libusb 1.0, `libusb_handle_events_timeout`): the moment becomes `now`, in milliseconds, or stays where it is
     /// later; then each transfer that is due, since its timeout has passed since its submission, is asked to end, by rising name and
-    /// number. A receipt each. An error where memory is refused: then nothing changed, the moment neither.
+    /// number. A receipt each. The journal before that began with `past`, which then has all that the caller has seen. An error where
+    /// memory is refused: then nothing changed, the moment neither.
     pub fn tick<R: Wait>(
         &self,
         rt: &R,
         caller: &mut Caller<L>,
+        past: &mut Past<L>,
         now: u64,
     ) -> Result<Vec<Receipt<L>>, AllocError>
-        ensures ticked { IfOk result (λ given. Ticks L.setup now caller.old given.items caller.new) }
+        ensures ticked { IfOk result (λ given. Ticks L.setup now past.old caller.old given.items caller.new) }
+        ensures past { OnOk result (past.new ≡ caller.new.seen) }
         ensures refused { OnErr result (caller.new ≡ misses caller.old) }
+        ensures kept { OnErr result (past.new ≡ past.old) }
     {
-        let made = self.lock(rt).book.tick(&mut caller.position, now);
+        let made = self.lock(rt).book.tick(&mut caller.position, past, now);
         let receipts = caller.counted(made)?;
         if let Some(first) = receipts.first() {
             self.wake_if(rt, caller, first, true, Work::Any);

@@ -1,7 +1,8 @@
 //! Who is woken when something changed, and when all is at rest.
 
 ghost use Rattle.std.specs.Prelude.{◌≡◌, IfNone, IfSome};
-ghost use Rattle.usb_library.specs.Calls.{LacksEvents, LacksWork, LooksOn, ShowsEvents, ShowsPending, WasPending, has_work, is_nothing};
+ghost use Rattle.usb_library.specs.Calls.{LacksEvents, LacksWork, LooksOn, ShowsEvents, ShowsPending, has_work, is_nothing};
+ghost use Rattle.usb_receipts.specs.Rule.{BeginsWith};
 ghost use Rattle.usb_library.specs.Wakes.{of_event as event_work, of_packet as packet_work};
 
 use crate::caller::Caller;
@@ -12,7 +13,7 @@ use std::sync::atomic::{AtomicBool, AtomicU64, Ordering};
 use std::sync::{Mutex, Wait};
 use usb_core::Pending;
 use usb_device::Device;
-use usb_journal::{Events, Naming, Recorder};
+use usb_journal::{Events, Naming, Past, Recorder};
 use usb_model::Reply;
 
 /// A worker, by its part of the work.
@@ -205,17 +206,6 @@ pub(crate) fn is_nothing(pending: &Pending) -> bool
 }
 
 impl<L: Naming, P: Drop, D: Device, J: Recorder> Library<L, P, D, J> {
-    /// What there is to do. Endpoints are looked at in a circle, from behind the one that was served last; from that one on
-    /// where the last look found no packet.
-    pub fn pending<R: Wait>(&self, rt: &R) -> Pending
-        ensures { WasPending L.setup result }
-    {
-        let mut guarded = self.lock(rt);
-        let pending = guarded.book.pending(guarded.look.after());
-        guarded.look.keep(&pending);
-        pending
-    }
-
     /// From now on this is unparked after each call that changed something, and when the workers are asked to stop. A
     /// thread that looks, finds nothing to do, and parks then misses no change: what comes between is a token that lets
     /// it pass. An error where memory is refused.
@@ -257,27 +247,46 @@ impl<L: Naming, P: Drop, D: Device, J: Recorder> Library<L, P, D, J> {
         self.stop_workers(rt);
     }
 
-    /// What there is to do, as a caller sees it, who sees the whole journal so far by it.
-    fn look<R: Wait>(&self, rt: &R, caller: &mut Caller<L>) -> Pending
+    /// What a caller has seen of the journal, as a value that goes to others and says so for good.
+    pub fn past<R: Wait>(&self, rt: &R, caller: &mut Caller<L>) -> Past<L>
+        ensures same { caller.new ≡ caller.old }
+        ensures past { result ≡ caller.old.seen }
+    {
+        self.lock(rt).book.remember(&mut caller.position)
+    }
+
+    /// What there is to do, as a caller sees it, who sees the whole journal so far by it. That begins with `past`, which then has all
+    /// that the caller has seen: so an old look isn't shown again. Endpoints are looked at in a circle, from behind the one that was
+    /// served last; from that one on where the last look found no packet.
+    pub fn pending<R: Wait>(&self, rt: &R, caller: &mut Caller<L>, past: &mut Past<L>) -> Pending
         ensures pending { ShowsPending L.setup caller.new.seen result }
         ensures looks { LooksOn caller.old caller.new }
+        ensures behind { BeginsWith past.old caller.new.seen }
+        ensures past { past.new ≡ caller.new.seen }
     {
         let mut guarded = self.lock(rt);
         let after = guarded.look.after();
-        let pending = guarded.book.look(&mut caller.position, after);
+        let pending = guarded.book.look(&mut caller.position, past, after);
         guarded.look.keep(&pending);
         pending
     }
 
     /// What there is to do, as a caller sees it. None where the workers were asked to stop and there is nothing, or where one of them gave
     /// up and there is no packet and no order. Whether they were asked is read first: so a submission before that is seen.
-    pub fn work<R: Wait>(&self, rt: &R, caller: &mut Caller<L>) -> Option<Pending>
+    pub fn work<R: Wait>(
+        &self,
+        rt: &R,
+        caller: &mut Caller<L>,
+        past: &mut Past<L>,
+    ) -> Option<Pending>
         ensures pending { IfSome result (ShowsPending L.setup caller.new.seen) }
         ensures none { IfNone result (LacksWork L.setup caller.new.seen) }
         ensures looks { LooksOn caller.old caller.new }
+        ensures behind { BeginsWith past.old caller.new.seen }
+        ensures past { past.new ≡ caller.new.seen }
     {
         let (ending, stopping) = (self.is_ending(), self.is_stopping());
-        let pending = self.look(rt, caller);
+        let pending = self.pending(rt, caller, past);
         if has_work(&pending) || !(ending || stopping && is_nothing(&pending)) {
             return Some(pending);
         }
@@ -285,38 +294,53 @@ impl<L: Naming, P: Drop, D: Device, J: Recorder> Library<L, P, D, J> {
     }
 
     /// What there is to do with events, as a caller sees it, which is known without a look at the endpoints.
-    fn look_for_events<R: Wait>(&self, rt: &R, caller: &mut Caller<L>) -> Events
+    fn look_for_events<R: Wait>(&self, rt: &R, caller: &mut Caller<L>, past: &mut Past<L>) -> Events
         ensures events { ShowsEvents L.setup caller.new.seen result }
         ensures looks { LooksOn caller.old caller.new }
+        ensures behind { BeginsWith past.old caller.new.seen }
+        ensures past { past.new ≡ caller.new.seen }
     {
-        self.lock(rt).book.look_for_events(&mut caller.position)
+        self.lock(rt)
+            .book
+            .look_for_events(&mut caller.position, past)
     }
 
     /// The same. None where the workers were asked to stop and there is nothing to do at all, or where one of them gave up and there is no
     /// event and no result.
-    pub fn events<R: Wait>(&self, rt: &R, caller: &mut Caller<L>) -> Option<Events>
+    pub fn events<R: Wait>(
+        &self,
+        rt: &R,
+        caller: &mut Caller<L>,
+        past: &mut Past<L>,
+    ) -> Option<Events>
         ensures events { IfSome result (ShowsEvents L.setup caller.new.seen) }
         ensures none { IfNone result (LacksEvents L.setup caller.new.seen) }
         ensures looks { LooksOn caller.old caller.new }
+        ensures behind { BeginsWith past.old caller.new.seen }
+        ensures past { past.new ≡ caller.new.seen }
     {
-        let events = self.look_for_events(rt, caller);
-        if events.is_none() && self.rested(rt) {
+        let events = self.look_for_events(rt, caller, past);
+        if !events.is_none() {
+            return Some(events);
+        }
+        if self.is_ending() {
             return None;
         }
-        Some(events)
+        if !self.is_stopping() {
+            return Some(events);
+        }
+        let pending = self.pending(rt, caller, past);
+        if is_nothing(&pending) {
+            return None;
+        }
+        Some(Events {
+            deliver: pending.deliver,
+            take: pending.take,
+        })
     }
 
     /// Whether a worker gave up.
     fn is_ending(&self) -> bool {
         self.watchers.ending.load(Ordering::SeqCst)
-    }
-
-    /// Whether workers were asked to stop and there is nothing to do, or one of them gave up.
-    pub fn rested<R: Wait>(&self, rt: &R) -> bool {
-        if self.is_ending() {
-            return true;
-        }
-        let stopping = self.is_stopping();
-        stopping && is_nothing(&self.pending(rt))
     }
 }

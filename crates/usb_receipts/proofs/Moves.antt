@@ -11,7 +11,7 @@ use native.Mathlib.Decide.{ℕ_discrete}
 use lib.ListN.{get_elem?}
 use Rattle.atomic_table.proofs.Lists.{at_set, at_snoc, set_again}
 use Rattle.usb_receipts.specs.declared.rule.Known.{Known}
-use Rattle.usb_receipts.specs.Rule.{Slot, keeper, opener, bearer, claimed, Stand, BeginsWith, total, moved, appended, cut, bare, numbered, settled, taken_in, owned, StoodAt, Stood, AllGiven, Fits, Rules, Checked}
+use Rattle.usb_receipts.specs.Rule.{Slot, keeper, opener, bearer, claimed, Stand, BeginsWith, total, moved, appended, cut, bare, numbered, settled, taken_in, owned, past_of, seen_for, AllBegin, StoodAt, Stood, AllGiven, Fits, Rules, Checked}
 
 -- how much one claim counts at place p
 abbrev unit : ℕ → ℕ → ℕ
@@ -119,7 +119,26 @@ module _ {E : Type 0} where
   begins_whole : (entries : List E) → BeginsWith entries entries
   begins_whole entries = ([], append_none entries)
 
+  -- what a list began with, it goes on beginning with
+  all_begin_more : (entries : List E) (x : E) (ps : List (List E)) → AllBegin entries ps → AllBegin (entries ++ x ∷ []) ps
+  all_begin_more entries x [] b = tt
+  all_begin_more entries x (p ∷ ps) b = (begins_more p entries (x ∷ []) b.0, all_begin_more entries x ps b.1)
+
+  all_begin_append : (entries : List E) (ps qs : List (List E)) → AllBegin entries ps → AllBegin entries qs → AllBegin entries (ps ++ qs)
+  all_begin_append entries [] qs a b = b
+  all_begin_append entries (p ∷ ps) qs a b = (a.0, all_begin_append entries ps qs a.1 b)
+
+  -- what a list begins with each of, it begins with the first of
+  pub all_begin_first : (entries : List E) (ps qs : List (List E)) → AllBegin entries (ps ++ qs) → AllBegin entries ps
+  all_begin_first entries [] qs a = tt
+  all_begin_first entries (p ∷ ps) qs a = (a.0, all_begin_first entries ps qs a.1)
+
 module _ {E : Type 0} (of : E → ℕ) where
+  -- what positions saw, the list begins with
+  stood_begin : (entries : List E) (next : ℕ) (ps : List (ℕ × List E)) → Stood of entries next ps → AllBegin entries (seen_for ps)
+  stood_begin entries next [] s = tt
+  stood_begin entries next (p ∷ ps) s = (s.0.begins, stood_begin entries next ps s.1)
+
   -- an entry of another number isn't among a number's own
   not_owned : (n : ℕ) (x : E) → of x ≢ n → owned of n (x ∷ []) ≡ []
   not_owned n x ne = let e : (of x == n) ≡ false = grind (arith, nat_tests) in ap (λ b. cond b (x ∷ []) []) e
@@ -195,7 +214,7 @@ module _ {E : Type 0} (of : E → ℕ) where
 
   -- a token with claims and positions that stand fits
   bears : (seat next : ℕ) (entries : List E) (homes : List (Maybe (Slot E))) (claims : List (ℕ × E)) (positions : List (ℕ × List E)) → Stand entries claims → Stood of entries next positions → (j : ℕ) → Fits of seat next entries homes j (bearer claims positions)
-  bears seat next entries homes claims positions s t j = record { whole = λ k. absurd (no_keeper k); home = λ k. absurd (no_keeper k); claims = s; positions = t }
+  bears seat next entries homes claims positions s t j = record { whole = λ k. absurd (no_keeper k); home = λ k. absurd (no_keeper k); claims = s; positions = t; pasts = tt }
 
   -- the moves
 
@@ -204,7 +223,7 @@ module _ {E : Type 0} (of : E → ℕ) where
   begins x = record { seat = 0; next = 0; entries = []; fits = first; claims = λ p. omega arith; numbers = λ n. omega arith; given = tt }
     where
       first : (by : ℕ) (v : Known E) → get_elem? (opener ∷ []) by ≡ some v → Fits of 0 0 [] (some x ∷ []) by v
-      first zero v e = subst (Fits of 0 0 [] (some x ∷ []) 0) (some-injective _ _ e) (record { whole = λ _. (refl, refl, refl); home = λ _. (refl, x, refl); claims = tt; positions = tt })
+      first zero v e = subst (Fits of 0 0 [] (some x ∷ []) 0) (some-injective _ _ e) (record { whole = λ _. (refl, refl, refl); home = λ _. (refl, x, refl); claims = tt; positions = tt; pasts = tt })
       first (suc by) v e = absurd (some-ne-none v (sym e))
 
   -- the first token takes the slot
@@ -224,8 +243,8 @@ module _ {E : Type 0} (of : E → ℕ) where
           fits = fits_set h.seat h.next h.entries after views by (keeper [] 0)
               (λ j u apart e.
               let f = h.fits j u e in
-              record { whole = f.whole; home = λ k. absurd (apart ((f.home k).0 ∙ sym there.0)); claims = f.claims; positions = f.positions })
-              (record { whole = λ _. (there.0, whole.1, whole.2); home = λ k. absurd (no_keeper k); claims = tt; positions = tt });
+              record { whole = f.whole; home = λ k. absurd (apart ((f.home k).0 ∙ sym there.0)); claims = f.claims; positions = f.positions; pasts = f.pasts })
+              (record { whole = λ _. (there.0, whole.1, whole.2); home = λ k. absurd (no_keeper k); claims = tt; positions = tt; pasts = tt });
           claims = λ p.
               let moved = total_set (λ u. claimed p u.claims) views by opener (keeper [] 0) at in
               let bound = h.claims p in
@@ -260,12 +279,13 @@ module _ {E : Type 0} (of : E → ℕ) where
             let two = total_two (λ w. claimed (of x) w.positions) views by j v u (λ same. apart (sym same)) at e in
             let bound = h.numbers (of x) in
             let none : claimed (of x) u.positions ≡ 0 = omega arith in
-            record { whole = λ k. absurd (apart ((f.whole k).0 ∙ sym seat)); home = f.home; claims = stand_more h.entries x u.claims f.claims; positions = stood_more h.entries h.next x u.positions none f.positions })
+            record { whole = λ k. absurd (apart ((f.whole k).0 ∙ sym seat)); home = f.home; claims = stand_more h.entries x u.claims f.claims; positions = stood_more h.entries h.next x u.positions none f.positions; pasts = all_begin_more h.entries x u.pasts f.pasts })
             (record {
               whole = λ _. (seat, longer, count);
               home = mine.home;
               claims = stand_append entries v.claims ((length v.entries, x) ∷ []) (stand_more h.entries x v.claims mine.claims) (ap (λ l. slice_get entries (length l)) same ∙ get_end h.entries x, tt);
               positions = subst (λ l. Stood of entries h.next (moved l v.positions)) (sym longer) (stood_moved h.entries entries h.next v.positions stood);
+              pasts = all_begin_more h.entries x v.pasts mine.pasts;
             });
         claims = λ p.
             let moved = total_set (λ u. claimed p u.claims) views by v (appended v x) at in
@@ -293,7 +313,7 @@ module _ {E : Type 0} (of : E → ℕ) where
         next = h.next;
         entries = h.entries;
         fits = fits_snoc h.seat h.next h.entries homes (set views by (cut v)) (bearer v.claims [])
-            (fits_set h.seat h.next h.entries homes views by (cut v) (λ j u apart e. h.fits j u e) (record { whole = mine.whole; home = mine.home; claims = tt; positions = mine.positions }))
+            (fits_set h.seat h.next h.entries homes views by (cut v) (λ j u apart e. h.fits j u e) (record { whole = mine.whole; home = mine.home; claims = tt; positions = mine.positions; pasts = mine.pasts }))
             (bears h.seat h.next h.entries homes v.claims [] mine.claims tt);
         claims = λ p.
             let moved = total_set (λ u. claimed p u.claims) views by v (cut v) at in
@@ -316,7 +336,7 @@ module _ {E : Type 0} (of : E → ℕ) where
         next = h.next;
         entries = h.entries;
         fits = fits_snoc h.seat h.next h.entries homes (set views by (bare v)) (bearer [] v.positions)
-            (fits_set h.seat h.next h.entries homes views by (bare v) (λ j u apart e. h.fits j u e) (record { whole = mine.whole; home = mine.home; claims = mine.claims; positions = tt }))
+            (fits_set h.seat h.next h.entries homes views by (bare v) (λ j u apart e. h.fits j u e) (record { whole = mine.whole; home = mine.home; claims = mine.claims; positions = tt; pasts = mine.pasts }))
             (bears h.seat h.next h.entries homes [] v.positions tt mine.positions);
         claims = λ p.
             let moved = total_set (λ u. claimed p u.claims) views by v (bare v) at in
@@ -348,8 +368,8 @@ module _ {E : Type 0} (of : E → ℕ) where
             (fits_set h.seat later h.entries homes views by (numbered v)
             (λ j u apart e.
             let f = h.fits j u e in
-            record { whole = λ k. absurd (apart ((f.whole k).0 ∙ sym seat)); home = f.home; claims = f.claims; positions = stood_next h.entries h.next u.positions f.positions })
-            (record { whole = λ _. (seat, same, ap suc count); home = mine.home; claims = mine.claims; positions = stood_next h.entries h.next v.positions mine.positions }))
+            record { whole = λ k. absurd (apart ((f.whole k).0 ∙ sym seat)); home = f.home; claims = f.claims; positions = stood_next h.entries h.next u.positions f.positions; pasts = f.pasts })
+            (record { whole = λ _. (seat, same, ap suc count); home = mine.home; claims = mine.claims; positions = stood_next h.entries h.next v.positions mine.positions; pasts = mine.pasts }))
             (bears h.seat later h.entries homes [] ((v.next, v.entries) ∷ []) tt
             (record { given = omega arith; begins = subst (λ l. BeginsWith l h.entries) (sym same) (begins_whole h.entries); own = ap (owned of v.next) (sym same) }, tt));
         claims = λ p.
@@ -370,6 +390,30 @@ module _ {E : Type 0} (of : E → ℕ) where
         given = given_next h.next h.entries h.given;
       }
 
+  -- what was seen for positions goes to a token of its own too
+  pub remembers : (homes : List (Maybe (Slot E))) (views : List (Known E)) (by : ℕ) (v : Known E) → Rules of homes views → get_elem? views by ≡ some v → Rules of homes (set views by v ++ past_of (seen_for v.positions) ∷ [])
+  remembers homes views by v h at =
+      let mine = h.fits by v at in
+      let new = past_of (seen_for v.positions) in record {
+        seat = h.seat;
+        next = h.next;
+        entries = h.entries;
+        fits = fits_snoc h.seat h.next h.entries homes (set views by v) new
+            (fits_set h.seat h.next h.entries homes views by v (λ j u apart e. h.fits j u e) mine)
+            (λ j. record { whole = λ k. absurd (no_keeper k); home = λ k. absurd (no_keeper k); claims = tt; positions = tt; pasts = stood_begin h.entries h.next v.positions mine.positions });
+        claims = λ p.
+            let moved = total_set (λ u. claimed p u.claims) views by v v at in
+            let more = total_snoc (λ u. claimed p u.claims) (set views by v) new in
+            let bound = h.claims p in
+            omega arith;
+        numbers = λ n.
+            let moved = total_set (λ u. claimed n u.positions) views by v v at in
+            let more = total_snoc (λ u. claimed n u.positions) (set views by v) new in
+            let bound = h.numbers n in
+            omega arith;
+        given = h.given;
+      }
+
   -- a token takes in what another knows
   pub takes : (homes : List (Maybe (Slot E))) (views : List (Known E)) (by : ℕ) (v : Known E) (other : ℕ) (w : Known E) → Rules of homes views → get_elem? views by ≡ some v → (other ≡ by → ⊥) → get_elem? (set views by (taken_in v w)) other ≡ some w
       → Rules of homes (set (set views by (taken_in v w)) other (bearer [] []))
@@ -387,6 +431,7 @@ module _ {E : Type 0} (of : E → ℕ) where
               home = mine.home;
               claims = stand_append h.entries v.claims w.claims mine.claims theirs.claims;
               positions = stood_append h.entries h.next v.positions w.positions mine.positions theirs.positions;
+              pasts = all_begin_append h.entries w.pasts v.pasts theirs.pasts mine.pasts;
             }) j u e)
             (bears h.seat h.next h.entries homes [] [] tt tt other);
         claims = λ p.
@@ -418,6 +463,7 @@ module _ {E : Type 0} (of : E → ℕ) where
               home = mine.home;
               claims = mine.claims;
               positions = subst (λ l. Stood of h.entries h.next (moved l v.positions)) (sym same) (stood_moved h.entries h.entries h.next v.positions mine.positions);
+              pasts = mine.pasts;
             });
         claims = λ p.
             let moved = total_set (λ u. claimed p u.claims) views by v (settled v) at in
@@ -440,6 +486,7 @@ module _ {E : Type 0} (of : E → ℕ) where
         claims = subst (λ entries. Stand entries v.claims) (sym same) mine.claims;
         apart = λ p. let part = total_part (λ u. claimed p u.claims) views by v at in let bound = h.claims p in omega arith;
         positions = subst (λ entries. Stood of entries v.next v.positions) (sym same) (subst (λ next. Stood of h.entries next v.positions) (sym count) mine.positions);
+        pasts = subst (λ entries. AllBegin entries v.pasts) (sym same) mine.pasts;
         numbers = λ n. let part = total_part (λ u. claimed n u.positions) views by v at in let bound = h.numbers n in omega arith;
         given = subst (λ entries. AllGiven of v.next entries) (sym same) (subst (λ next. AllGiven of next h.entries) (sym count) h.given);
       }

@@ -19,15 +19,23 @@ claimed p (c ∷ cs) = (if c.0 == p then 1 else 0) + claimed p cs
 module _ {E : Type 0} where
   -- the token that knows the list whole, and which number is given next
   abbrev pub keeper : List E → ℕ → Known E
-  keeper entries next = record { keeps = true; home = false; entries = entries; next = next; claims = []; positions = [] }
+  keeper entries next = record { keeps = true; home = false; entries = entries; next = next; claims = []; positions = []; pasts = [] }
 
   -- the first token: it knows the empty list whole, and that the slot lies in the table
   abbrev pub opener : Known E
-  opener = record { keeps = true; home = true; entries = []; next = 0; claims = []; positions = [] }
+  opener = record { keeps = true; home = true; entries = []; next = 0; claims = []; positions = []; pasts = [] }
 
   -- a token that has claims and positions alone
   abbrev pub bearer : List (ℕ × E) → List (ℕ × List E) → Known E
-  bearer claims positions = record { keeps = false; home = false; entries = []; next = 0; claims = claims; positions = positions }
+  bearer claims positions = record { keeps = false; home = false; entries = []; next = 0; claims = claims; positions = positions; pasts = [] }
+
+  -- a token that has beginnings of the list alone, which were seen once
+  abbrev pub past_of : List (List E) → Known E
+  past_of pasts = record { keeps = false; home = false; entries = []; next = 0; claims = []; positions = []; pasts = pasts }
+
+  -- what was seen for these positions
+  abbrev pub seen_for : List (ℕ × List E) → List (List E)
+  seen_for ps = map (λ p. p.1) ps
 
   -- each claim's entry stands at its place
   abbrev pub Stand : List E → List (ℕ × E) → Type 0
@@ -37,6 +45,11 @@ module _ {E : Type 0} where
   -- a list begins with another
   abbrev pub BeginsWith : List E → List E → Type 0
   BeginsWith seen entries = (rest : List E) × (entries ≡ seen ++ rest)
+
+  -- a list begins with each of these
+  abbrev pub AllBegin : List E → List (List E) → Type 0
+  AllBegin entries [] = Unit {0}
+  AllBegin entries (p ∷ ps) = BeginsWith p entries × AllBegin entries ps
 
   -- f of each, added up
   abbrev pub total : (Known E → ℕ) → List (Known E) → ℕ
@@ -49,27 +62,27 @@ module _ {E : Type 0} where
 
   -- one more entry behind the list, with a claim to its place, and positions behind it
   abbrev pub appended : Known E → E → Known E
-  appended v x = record { keeps = v.keeps; home = v.home; entries = v.entries ++ x ∷ []; next = v.next; claims = v.claims ++ (length v.entries, x) ∷ []; positions = moved (v.entries ++ x ∷ []) v.positions }
+  appended v x = record { keeps = v.keeps; home = v.home; entries = v.entries ++ x ∷ []; next = v.next; claims = v.claims ++ (length v.entries, x) ∷ []; positions = moved (v.entries ++ x ∷ []) v.positions; pasts = v.pasts }
 
   -- without its claims
   abbrev pub cut : Known E → Known E
-  cut v = record { keeps = v.keeps; home = v.home; entries = v.entries; next = v.next; claims = []; positions = v.positions }
+  cut v = record { keeps = v.keeps; home = v.home; entries = v.entries; next = v.next; claims = []; positions = v.positions; pasts = v.pasts }
 
   -- without its positions
   abbrev pub bare : Known E → Known E
-  bare v = record { keeps = v.keeps; home = v.home; entries = v.entries; next = v.next; claims = v.claims; positions = [] }
+  bare v = record { keeps = v.keeps; home = v.home; entries = v.entries; next = v.next; claims = v.claims; positions = []; pasts = v.pasts }
 
   -- one more number was given
   abbrev pub numbered : Known E → Known E
-  numbered v = record { keeps = v.keeps; home = v.home; entries = v.entries; next = suc v.next; claims = v.claims; positions = v.positions }
+  numbered v = record { keeps = v.keeps; home = v.home; entries = v.entries; next = suc v.next; claims = v.claims; positions = v.positions; pasts = v.pasts }
 
   -- its positions stand at the end
   abbrev pub settled : Known E → Known E
-  settled v = record { keeps = v.keeps; home = v.home; entries = v.entries; next = v.next; claims = v.claims; positions = moved v.entries v.positions }
+  settled v = record { keeps = v.keeps; home = v.home; entries = v.entries; next = v.next; claims = v.claims; positions = moved v.entries v.positions; pasts = v.pasts }
 
   -- with another's claims and positions
   abbrev pub taken_in : Known E → Known E → Known E
-  taken_in v w = record { keeps = v.keeps; home = v.home; entries = v.entries; next = v.next; claims = v.claims ++ w.claims; positions = v.positions ++ w.positions }
+  taken_in v w = record { keeps = v.keeps; home = v.home; entries = v.entries; next = v.next; claims = v.claims ++ w.claims; positions = v.positions ++ w.positions; pasts = w.pasts ++ v.pasts }
 
   -- the same where an entry is said
   abbrev pub appended_if : Known E → Option E → Known E
@@ -117,6 +130,7 @@ module _ {E : Type 0} (of : E → ℕ) where
     pub home : v.home ≡ true → (by ≡ seat) × (x : Slot E) × (get_elem? homes 0 ≡ some (some x))
     pub claims : Stand entries v.claims
     pub positions : Stood entries next v.positions
+    pub pasts : AllBegin entries v.pasts
 
   -- the rule, of the tokens: there is one list, no two claims have one place, and no two positions one number
   pub record Rules (homes : List (Maybe (Slot E))) (views : List (Known E)) : Type 0 where
@@ -136,6 +150,7 @@ module _ {E : Type 0} (of : E → ℕ) where
     pub claims : Stand v.entries v.claims
     pub apart : (p : ℕ) → claimed p v.claims ≤ 1
     pub positions : Stood v.entries v.next v.positions
+    pub pasts : AllBegin v.entries v.pasts
     pub numbers : (n : ℕ) → claimed n v.positions ≤ 1
     pub given : AllGiven v.next v.entries
 

@@ -24,6 +24,11 @@ module _ (E : Type 0) where
     pub log : TableId
     pub positions : List (ℕ × List E)
 
+  -- what was seen once: its log, and beginnings of the list
+  pub record Pasts : Type 0 where
+    pub log : TableId
+    pub pasts : List (List E)
+
 module _ {E : Type 0} where
   abbrev pub new_keeper : TableId → Keeps E
   new_keeper log = record { log = log; entries = []; next = 0; taken = []; back = [] }
@@ -68,3 +73,9 @@ module _ {E : Type 0} where
   pub record IsPosition (me : Me (Slot E) (Known E)) : Type 0 where
     pub slots : me.1 ≡ []
     pub claims : me.0.claims ≡ []
+
+  -- a token that has beginnings of the list alone
+  pub record IsPast (me : Me (Slot E) (Known E)) : Type 0 where
+    pub slots : me.1 ≡ []
+    pub claims : me.0.claims ≡ []
+    pub positions : me.0.positions ≡ []

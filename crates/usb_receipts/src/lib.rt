@@ -41,4 +41,4 @@ mod tokens;
 pub use borne::Borne;
 pub use image::Image;
 pub use log::Log;
-pub use tokens::{Claim, Keeper, Position};
+pub use tokens::{Claim, Keeper, Past, Position};

@@ -1,13 +1,13 @@
 //! A log, and what is done with it.
 
 ghost use Rattle.std.specs.Prelude.{IfOk, length, ℕ, List, [], ◌+◌, ◌++◌, ◌∷◌, ◌≡◌, ◌≤◌};
-ghost use Rattle.usb_receipts.specs.Rule.{claimed, moved, owned, Stand, Stood};
+ghost use Rattle.usb_receipts.specs.Rule.{AllBegin, claimed, moved, owned, seen_for, Stand, Stood};
 ghost use Rattle.usb_receipts.specs.Tokens.{all_moved, claim_to, position_at, new_keeper, with_back, with_entry, with_number, with_taken};
 
 use crate::borne::Borne;
 use crate::rule::Word;
 use crate::seats;
-use crate::tokens::{Claim, Keeper, Position};
+use crate::tokens::{Claim, Keeper, Past, Position};
 use std::alloc::{AllocError, Global};
 use std::marker::Model;
 use std::mem;
@@ -91,6 +91,46 @@ impl<E: Borne> Log<E> {
         seats::take_in(&self.word, &mut keeper.token, before);
         seats::check(&self.word, &mut keeper.token);
         let after = seats::cut_positions(&self.word, &mut keeper.token);
+        let claims = mem::replace(&mut position.token, after);
+        seats::take_in(&self.word, &mut keeper.token, claims);
+    }
+
+    /// What was seen for a position. It is left as it was.
+    pub fn remember(&self, position: &mut Position<E>) -> Past<E>
+        requires here { position.old.log ≡ self.now }
+        ensures same { position.new ≡ position.old }
+        ensures past { (result.log ≡ self.now) × (result.pasts ≡ seen_for position.old.positions) }
+    {
+        Past {
+            token: seats::remember(&self.word, &mut position.token),
+        }
+    }
+
+    /// Moves a position to the end of the list, as `look` does. Told is besides that the list begins with what was seen once by whoever
+    /// it may be: with all of it, however much that is.
+    pub fn look_behind(
+        &self,
+        keeper: &mut Keeper<E>,
+        position: &mut Position<E>,
+        past: &mut Past<E>,
+    )
+        requires here { (keeper.old.log ≡ self.now) × (position.old.log ≡ self.now) × (past.old.log ≡ self.now) }
+        requires none { keeper.old.back ≡ [] }
+        ensures same { keeper.new ≡ keeper.old }
+        ensures moved { (position.new.log ≡ self.now) × (position.new.positions ≡ moved keeper.old.entries position.old.positions) }
+        ensures stood { Stood E.bearer keeper.old.entries keeper.old.next position.old.positions }
+        ensures behind { AllBegin keeper.old.entries past.old.pasts }
+        ensures past { (past.new.log ≡ self.now) × (past.new.pasts ≡ seen_for position.new.positions) }
+    {
+        let claims = seats::cut_claims(&self.word, &mut keeper.token);
+        let before = mem::replace(&mut position.token, claims);
+        seats::take_in(&self.word, &mut keeper.token, before);
+        let nothing = seats::cut_claims(&self.word, &mut keeper.token);
+        let seen = mem::replace(&mut past.token, nothing);
+        seats::take_in(&self.word, &mut keeper.token, seen);
+        seats::check(&self.word, &mut keeper.token);
+        let mut after = seats::cut_positions(&self.word, &mut keeper.token);
+        past.token = seats::remember(&self.word, &mut after);
         let claims = mem::replace(&mut position.token, after);
         seats::take_in(&self.word, &mut keeper.token, claims);
     }

@@ -20,6 +20,8 @@ pub struct Known<E> {
     pub claims: LinkedList<(u64, E)>,
     /// Numbers of bearers, each with the beginning of the list that was seen for it last.
     pub positions: LinkedList<(u64, LinkedList<E>)>,
+    /// Beginnings of the list that were seen once.
+    pub pasts: LinkedList<LinkedList<E>>,
 }
 
 /// There is one list, which one token knows whole; what all others know of it is so, no place is claimed twice, and no number is
@@ -96,6 +98,17 @@ impl<E> Split<Known<E>> for GivesNumber {
     ghost left = { numbered };
 
     ghost right = { λ v. bearer [] ((v.next, v.entries) ∷ []) };
+}
+
+/// What was seen for positions goes to a token of its own too.
+pub struct Remembers;
+
+impl<E> Split<Known<E>> for Remembers {
+    ghost use Rattle.usb_receipts.specs.Rule.{past_of, seen_for};
+
+    ghost left = { λ v. v };
+
+    ghost right = { λ v. past_of (seen_for v.positions) };
 }
 
 /// A token takes in what another knows.

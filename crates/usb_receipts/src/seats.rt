@@ -1,13 +1,13 @@
 //! The steps of a log's tokens, in terms of what each of them knows.
 
 ghost use Rattle.std.specs.Prelude.{IfOk, length, ℕ, List, [], true, ◌+◌, ◌++◌, ◌∷◌, ◌≡◌, ◌≤◌};
-ghost use Rattle.usb_receipts.specs.Rule.{appended, bare, bearer, Checked, cut, HasSlot, keeper, numbered, settled, taken_in};
+ghost use Rattle.usb_receipts.specs.Rule.{appended, bare, bearer, Checked, cut, HasSlot, keeper, numbered, past_of, seen_for, settled, taken_in};
 
 use crate::borne::Borne;
 use crate::image::Image;
 use crate::rule::{
-    Appends, Checks, CutsClaims, CutsPositions, GivesNumber, LogRule, TakesIn, TakesSlot, Token,
-    Word,
+    Appends, Checks, CutsClaims, CutsPositions, GivesNumber, LogRule, Remembers, TakesIn,
+    TakesSlot, Token, Word,
 };
 use atomic_table::Table;
 use std::alloc::{AllocError, Global};
@@ -70,6 +70,16 @@ pub fn give_number<E: Borne>(word: &Word<E>, token: &mut Token<E>) -> Token<E>
     ensures given { (result.table_id ≡ token.old.table_id) × (result.me ≡ (bearer [] ((token.old.me.0.next, token.old.me.0.entries) ∷ []), [])) }
 {
     word.shared.split_seat::<GivesNumber>(token)
+}
+
+/// What was seen for a token's positions, in a token of its own; it is left as it was.
+pub fn remember<E: Borne>(word: &Word<E>, token: &mut Token<E>) -> Token<E>
+    requires one { word.now.shared.table_id.words ≡ 1 }
+    requires log { token.old.table_id ≡ word.now.shared.table_id }
+    ensures same { (token.new.table_id ≡ token.old.table_id) × (token.new.me ≡ token.old.me) }
+    ensures given { (result.table_id ≡ token.old.table_id) × (result.me ≡ (past_of (seen_for token.old.me.0.positions), [])) }
+{
+    word.shared.split_seat::<Remembers>(token)
 }
 
 /// The keeper takes in another token's claims and positions.

@@ -54,3 +54,20 @@ impl<E> Model for Position<E> {
 
     ghost invariant = { λ m. IsPosition m.token.me };
 }
+
+/// Beginnings of the list that were seen once. It has no bytes, and so whoever is lent it can't tell how long they are.
+#[derive(Drop)]
+pub struct Past<E> {
+    pub(crate) token: Token<E>,
+}
+
+/// Contracts see the log, and what was seen.
+impl<E> Model for Past<E> {
+    ghost use Rattle.usb_receipts.specs.Tokens.{IsPast, Pasts};
+
+    ghost Value = { Pasts E };
+
+    ghost view = { λ p. record { log = p.token.table_id; pasts = p.token.me.0.pasts } };
+
+    ghost invariant = { λ p. IsPast p.token.me };
+}

@@ -97,8 +97,9 @@ pub fn controller_loop<L: Naming, P: Drop, D: Device, J: Recorder, G: Gate, R: W
     let mut caller = caller;
     let mut tries = Tries::new();
     let mut parking = Parking::new(rt, alloc, library, WorkerPart::Controller);
+    let mut past = library.past(rt, &mut caller);
     for _ in rt.forever() {
-        let Some(pending) = library.work(rt, &mut caller) else {
+        let Some(pending) = library.work(rt, &mut caller, &mut past) else {
             return caller;
         };
         turn(

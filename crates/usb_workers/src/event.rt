@@ -14,7 +14,7 @@ use std::alloc::Global;
 use std::sync::Wait;
 use usb_core::{Callback, Taken};
 use usb_device::Device;
-use usb_journal::{Events, Naming, Recorder};
+use usb_journal::{Events, Naming, Past, Recorder};
 use usb_library::{Caller, Library, WorkerPart};
 
 /// Events are handled in a row, if the look showed one, as many as wait and as the gate lets by. Where memory is refused, the next look
@@ -24,6 +24,7 @@ fn deliver<L: Naming, C: Callback, D: Device, J: Recorder, G: Gate, R: Wait>(
     library: &Library<L, C, D, J>,
     gate: &mut G,
     caller: &mut Caller<L>,
+    past: &mut Past<L>,
     tries: &mut Tries,
     events: &Events,
 )
@@ -32,7 +33,7 @@ fn deliver<L: Naming, C: Callback, D: Device, J: Recorder, G: Gate, R: Wait>(
 {
     if events.deliver {
         gate.pass(rt, WorkerStep::Deliver);
-        match library.deliver_all(rt, caller, gate.burst().max(1)) {
+        match library.deliver_all(rt, caller, past, gate.burst().max(1)) {
             Ok(_) => tries.done(),
             Err(_) => tries.refused(rt, library),
         }
@@ -44,6 +45,7 @@ fn take<L: Naming, C: Callback, D: Device, J: Recorder, R: Wait>(
     rt: &R,
     library: &Library<L, C, D, J>,
     caller: &mut Caller<L>,
+    past: &mut Past<L>,
     tries: &mut Tries,
     most: u32,
     taken: &mut Vec<Taken<C>>,
@@ -53,7 +55,7 @@ fn take<L: Naming, C: Callback, D: Device, J: Recorder, R: Wait>(
     ensures made { Takes L.setup (map (λ t. t.returned) taken.new.items) caller.old caller.new }
     ensures counted { AreCounted tries.old.refused caller.old → AreCounted tries.new.refused caller.new }
 {
-    match library.take_all(rt, caller, most, taken) {
+    match library.take_all(rt, caller, past, most, taken) {
         Ok(_) => tries.done(),
         Err(_) => tries.refused(rt, library),
     }
@@ -106,6 +108,7 @@ fn take_and_call<L: Naming, C: Callback, D: Device, J: Recorder, G: Gate, R: Wai
     library: &Library<L, C, D, J>,
     gate: &mut G,
     caller: &mut Caller<L>,
+    past: &mut Past<L>,
     tries: &mut Tries,
     events: &Events,
     taken: &mut Vec<Taken<C>>,
@@ -119,7 +122,8 @@ fn take_and_call<L: Naming, C: Callback, D: Device, J: Recorder, G: Gate, R: Wai
         return;
     }
     gate.pass(rt, WorkerStep::Take);
-    take(rt, library, caller, tries, gate.burst().max(1), taken);
+    let most = gate.burst().max(1);
+    take(rt, library, caller, past, tries, most, taken);
     call_all(rt, library, gate, caller, tries, taken);
 }
 
@@ -129,6 +133,7 @@ fn turn<L: Naming, C: Callback, D: Device, J: Recorder, G: Gate, R: Wait>(
     library: &Library<L, C, D, J>,
     gate: &mut G,
     caller: &mut Caller<L>,
+    past: &mut Past<L>,
     tries: &mut Tries,
     parking: &mut Parking,
     events: &Events,
@@ -139,8 +144,8 @@ fn turn<L: Naming, C: Callback, D: Device, J: Recorder, G: Gate, R: Wait>(
     ensures counted { AreCounted tries.old.refused caller.old → AreCounted tries.new.refused caller.new }
     ensures empty { taken.new.items ≡ [] }
 {
-    deliver(rt, library, gate, caller, tries, events);
-    take_and_call(rt, library, gate, caller, tries, events, taken);
+    deliver(rt, library, gate, caller, past, tries, events);
+    take_and_call(rt, library, gate, caller, past, tries, events, taken);
     if events.is_none() {
         parking.park(rt, library);
     }
@@ -167,9 +172,10 @@ pub fn event_loop<L: Naming, C: Callback, D: Device, J: Recorder, G: Gate, R: Wa
     let mut caller = caller;
     let mut tries = Tries::new();
     let mut parking = Parking::new(rt, alloc, library, WorkerPart::Events);
+    let mut past = library.past(rt, &mut caller);
     let mut taken = Vec::new(alloc);
     for _ in rt.forever() {
-        let Some(events) = library.events(rt, &mut caller) else {
+        let Some(events) = library.events(rt, &mut caller, &mut past) else {
             return caller;
         };
         turn(
@@ -177,6 +183,7 @@ pub fn event_loop<L: Naming, C: Callback, D: Device, J: Recorder, G: Gate, R: Wa
             library,
             gate,
             &mut caller,
+            &mut past,
             &mut tries,
             &mut parking,
             &events,

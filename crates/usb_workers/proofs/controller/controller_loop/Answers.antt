@@ -1,9 +1,10 @@
-use Rattle.std.proofs.Common.{arith, inr}
+use Rattle.std.proofs.Common.{arith, inr, subst, sym}
+use Rattle.usb_library.specs.Calls.{ShowsPending}
 use Rattle.usb_workers.specs.Rounds as R
 use Rattle.usb_workers.proofs.controller.controller_loop.Goals as goal
 
 pub loop-init : goal.loop-init
-loop-init g c = record { rounds = R.Rounds.none; counted = (omega (arith, c.new-tries.ensures), omega (arith, c.new-tries.ensures)) }
+loop-init g c = record { rounds = subst (λ x. R.Rounds (ShowsPending g.L.Naming.setup) (R.Controls g.L.Naming.setup) c.args.caller x) (sym c.past.ensures.same) R.Rounds.none; counted = (omega (arith, c.new-tries.ensures), omega (arith, c.new-tries.ensures)) }
 
 pub loop-preserved : goal.loop-preserved
 loop-preserved g c = record {

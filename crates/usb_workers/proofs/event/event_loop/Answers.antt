@@ -1,9 +1,10 @@
-use Rattle.std.proofs.Common.{arith, inr}
+use Rattle.std.proofs.Common.{arith, inr, subst, sym}
+use Rattle.usb_library.specs.Calls.{ShowsEvents}
 use Rattle.usb_workers.specs.Rounds as R
 use Rattle.usb_workers.proofs.event.event_loop.Goals as goal
 
 pub loop-init : goal.loop-init
-loop-init g c = record { rounds = R.Rounds.none; counted = (omega (arith, c.new-tries.ensures), omega (arith, c.new-tries.ensures)); empty = c.new-taken.ensures.items }
+loop-init g c = record { rounds = subst (λ x. R.Rounds (ShowsEvents g.L.Naming.setup) (R.Handles g.L.Naming.setup (R.MayAnswer g.C.Callback.may_answer g.C.Callback.rule)) c.args.caller x) (sym c.past.ensures.same) R.Rounds.none; counted = (omega (arith, c.new-tries.ensures), omega (arith, c.new-tries.ensures)); empty = c.new-taken.ensures.items }
 
 pub loop-preserved : goal.loop-preserved
 loop-preserved g c = record {

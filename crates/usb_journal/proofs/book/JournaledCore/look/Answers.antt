@@ -7,4 +7,4 @@ pub returns-clause-pending : goal.returns-clause-pending
 returns-clause-pending g c =
     let setup = g.L.Naming.setup in
     let w = world_where setup c.self.inside.log.journal in
-    subst (λ seen. IsPending setup (world_where setup seen) c.args.after c.pending.result) (sym (ap (λ p. p.seen) c.look.ensures.position)) (c.pending.ensures setup w c.self.invariant.0.1)
+    subst (λ seen. IsPending setup (world_where setup seen) c.args.after c.pending.result) (sym (ap (λ p. p.seen) c.look_behind.ensures.position)) (c.pending.ensures setup w c.self.invariant.0.1)

@@ -15,7 +15,7 @@ returns-clause-steps g c =
     let w = world_where setup journal in
     let found = c.deref-2.ensures.value ∙ (c.in_ok-due.ensures setup w i.0.1 ∙ ap (λ ts. by_name (filter (is_over setup w later) ts)) (c.deref.ensures.value ∙ i.1)) in
     subst (λ (b : Booked g.row.P.Denot). map asked (drop (length b.journal) c.expire_all.new.log.journal) ≡ asks c.args.position.now.number (max b.moment c.args.now) (due b.setup (dated b.journal) (max b.moment c.args.now))) c.self.view_is
-    (ap (λ l. map asked (drop (length l) c.expire_all.new.log.journal)) (sym (ap (λ l. l.journal) c.look.ensures.same ∙ c.reserve.ensures.same))
+    (ap (λ l. map asked (drop (length l) c.expire_all.new.log.journal)) (sym (ap (λ l. l.journal) c.look_behind.ensures.same ∙ c.reserve.ensures.same))
     ∙ (c.expire_all.ensures.steps ∙ (ap (λ l. asks c.number-caller.result later (expires l)) found ∙ (ap (asks c.number-caller.result later) (due_by_timers setup journal later i.0.0)
     ∙ (ap (λ k. asks c.number-caller.result k (due setup (dated journal) k)) c.max-later.ensures
     ∙ ap (λ n. asks n (max c.self.inside.moment c.args.now) (due setup (dated journal) (max c.self.inside.moment c.args.now))) c.number-caller.ensures)))))

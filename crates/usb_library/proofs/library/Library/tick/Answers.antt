@@ -28,6 +28,7 @@ returns-clause-ticked g c =
       own = rw (← c.caller.view_is) (ap (λ x. x.own) same ∙ there c.tick-made.result c.in_ok-receipts.receipts is e.own);
       number = rw (← c.caller.view_is) (ap (λ x. x.number) same ∙ there c.tick-made.result c.in_ok-receipts.receipts is e.number);
       missed = rw (← c.caller.view_is) (ap (λ x. x.missed) same);
+      behind = there c.tick-made.result c.in_ok-receipts.receipts is e.behind;
       began = rw (← c.caller.view_is) saw.0;
       saw = ap (λ x. x.seen) same ∙ (saw.1 ∙ (sym (take-append-drop (length journal) after) ∙ ap (λ l. l ++ drop (length journal) after) e.begins));
     }
