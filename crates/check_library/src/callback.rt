@@ -2,8 +2,8 @@
 
 use crate::signals::{Mark, Signals};
 use std::sync::atomic::{AtomicU64, Ordering};
-use usb_core::{Callback, End};
-use usb_model::{Refused, Returned, Rule, StatusSet, Verdict};
+use usb_core::{Callback, Due, End};
+use usb_model::{Refused, Rule, StatusSet, Verdict};
 
 /// What a callback does.
 #[derive(Clone, Copy)]
@@ -74,9 +74,9 @@ impl<'a> Callback for SceneCallback<'a> {
 
     ghost may_answer = { λ c r v. v ≡ verdict_of c.rule r.status r.round };
 
-    fn call(self, returned: Returned) -> (Verdict, Option<SceneCallback<'a>>) {
+    fn call(self, due: Due) -> (Verdict, Option<SceneCallback<'a>>) {
         self.meet();
-        let verdict = self.rule.verdict(returned.status, returned.round);
+        let verdict = self.rule.verdict(due.status, due.round);
         (verdict, Some(self))
     }
 

@@ -1,17 +1,17 @@
 //! Callbacks that are called: two that repeat and one that is called once, by code that knows no box.
 
-ghost use Rattle.std.specs.Prelude.{IfOk, IfSome, is_some, ◌≡◌};
+ghost use Rattle.std.specs.Prelude.{IfSome, is_some, ◌≡◌};
 ghost use Rattle.usb_core.specs.Callbacks.{Fits};
-ghost use Rattle.usb_model.specs.declared.status.Status.TheVariants.{Completed};
 ghost use Rattle.usb_model.specs.World.Plans.{verdict_of};
 
+use crate::completions::completed;
 use crate::expect::{expect, present};
 use anyhow::Result;
 use std::alloc::Global;
 use std::sync::Arc;
 use std::sync::atomic::{AtomicU64, Ordering};
-use usb_core::{Callback, End, Once, Repeat, StoredCallback, Told};
-use usb_model::{BytesRead, EpAddr, Name, Refused, Returned, Rule, Status, StatusSet, Verdict};
+use usb_core::{Callback, Due, End, Once, Repeat, StoredCallback, Told};
+use usb_model::{Refused, Returned, Rule, StatusSet, Verdict};
 
 /// Plays the scenes of callbacks.
 pub fn play<P: Print>(rt: &P, alloc: Global) -> Result<()> {
@@ -26,21 +26,6 @@ pub fn play<P: Print>(rt: &P, alloc: Global) -> Result<()> {
     Ok(())
 }
 
-/// Transfer 1 on endpoint 81, completed with no bytes.
-fn completed(alloc: Global, round: u64) -> Result<Returned>
-    ensures { IfOk result (λ r. (r.round ≡ round) × (r.status ≡ Completed)) }
-{
-    Ok(Returned {
-        h: present(Name::new(0), "name 0")?,
-        n: 1,
-        ep: EpAddr::new(0x81),
-        round,
-        status: Status::Completed,
-        actual: 0,
-        bytes: BytesRead::new(alloc),
-    })
-}
-
 /// Callbacks cross threads.
 fn crosses<T: Send>(value: T) -> T
     ensures { result ≡ value }
@@ -49,12 +34,12 @@ fn crosses<T: Send>(value: T) -> T
 }
 
 /// What any callback answers.
-fn answer<C: Callback>(callback: C, returned: Returned) -> (Verdict, Option<C>)
-    ensures fits { Fits (C.rule callback) returned result.0 }
+fn answer<C: Callback>(callback: C, due: Due) -> (Verdict, Option<C>)
+    ensures fits { Fits (C.rule callback) due result.0 }
     ensures back { is_some result.1 ≡ C.repeats callback }
     ensures same { IfSome result.1 (λ c. c ≡ callback) }
 {
-    callback.call(returned)
+    callback.call(due)
 }
 
 /// A callback goes on.
@@ -118,7 +103,7 @@ fn under_no_rule(alloc: Global) -> Result<()> {
     goes_on_once(alloc, callback, [1, 2])
 }
 
-/// A callback that is called once adds once, and is used up.
+/// A callback that is called once adds the number of its transfer, and is used up.
 fn called_once(alloc: Global) -> Result<()> {
     let calls = Arc::new(alloc, AtomicU64::new(0))?;
     let counted = calls.clone()?;
@@ -126,7 +111,7 @@ fn called_once(alloc: Global) -> Result<()> {
         let _before = counted.fetch_add(returned.n, Ordering::SeqCst);
     })?;
     let callback = crosses(StoredCallback::once(code));
-    let (verdict, again) = answer(callback, completed(alloc, 0)?);
+    let (verdict, again) = answer(callback, completed(alloc, 1)?);
     stops(&verdict)?;
     expect(
         again.is_none(),

@@ -10,6 +10,7 @@
 //!   (`long.rt`); what can be asked of it between two steps (`standing.rt`); how a scene is played (`scene.rt`), and whether what is found fits a line (`pattern.rt`); the core with what can be asked
 //!   of its rings (`host.rt`), what was found, in words (`found.rt`), and the device (`device.rt`)
 //! - `both.rt`, with its folder: the core over two kinds of device in one setup, and with stored closures
+//! - `completions.rt`: what is due to a callback, of a core
 //! - `relay.rt`, `changed.rt`: a device that hands its calls on; a configuration with a byte changed
 //! - `expect.rt`: an error that says what isn't as it has to be
 #![tactic(auto)]
@@ -19,6 +20,7 @@ mod bytes;
 mod callbacks;
 mod captures;
 mod changed;
+mod completions;
 mod configurations;
 mod devices;
 mod events;

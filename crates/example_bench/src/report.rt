@@ -3,7 +3,7 @@
 use std::alloc::AllocError;
 use std::sync::Arc;
 use std::sync::atomic::{AtomicBool, AtomicU64, Ordering};
-use tirnouch::{Callback, Returned, Status, Verdict};
+use tirnouch::{Callback, Due, Status, Verdict};
 
 /// What came of a handle's transfers so far. Callbacks write it, the handle's threads and the program read it.
 #[derive(Drop)]
@@ -76,12 +76,12 @@ impl Callback for Report {
 
     ghost may_answer = { λ c r v. ⊤ };
 
-    fn call(self, returned: Returned) -> (Verdict, Option<Report>) {
+    fn call(self, due: Due) -> (Verdict, Option<Report>) {
         let tally = &self.tally;
-        if returned.status == Status::Completed {
+        if due.status == Status::Completed {
             tally.completed.fetch_add(1, Ordering::SeqCst);
         }
-        if tally.called.fetch_add(1, Ordering::SeqCst) != returned.n {
+        if tally.called.fetch_add(1, Ordering::SeqCst) != due.n {
             tally.wrong.store(true, Ordering::SeqCst);
         }
         (Verdict::Stop, Some(self))

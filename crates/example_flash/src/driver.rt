@@ -63,7 +63,7 @@ fn serve(
 /// Events are handled: what was called back, if anything was.
 fn called_back(core: &mut Core<(), TableDevice>) -> Option<Returned> {
     let _steps = core.drain(PATIENCE);
-    Some(core.take_done()?.returned)
+    Some(core.take_done()?.returned.into_returned())
 }
 
 impl Driver {

@@ -3,7 +3,7 @@
 use std::alloc::AllocError;
 use std::sync::Arc;
 use std::sync::atomic::{AtomicU64, Ordering};
-use tirnouch::{Callback, Returned, Status, Verdict};
+use tirnouch::{Callback, Due, Status, Verdict};
 
 /// How many readings came to what. The callback's thread writes it, the meter's own reads it.
 #[derive(Drop)]
@@ -79,8 +79,8 @@ impl Callback for Reading {
 
     ghost may_answer = { λ c r v. ⊤ };
 
-    fn call(self, returned: Returned) -> (Verdict, Option<Reading>) {
-        self.readings.note(returned.status);
+    fn call(self, due: Due) -> (Verdict, Option<Reading>) {
+        self.readings.note(due.status);
         (Verdict::Stop, Some(self))
     }
 }

@@ -3,7 +3,7 @@
 use std::alloc::AllocError;
 use std::sync::Arc;
 use std::sync::atomic::{AtomicBool, AtomicU64, Ordering};
-use tirnouch::{Callback, Returned, Verdict};
+use tirnouch::{Callback, Due, Verdict};
 
 /// What was scanned so far. The callback's thread writes it, the scanner's own reads it.
 #[derive(Drop)]
@@ -102,14 +102,14 @@ impl Callback for Strip {
 
     ghost may_answer = { λ c r v. ⊤ };
 
-    fn call(self, returned: Returned) -> (Verdict, Option<Strip>) {
-        self.tally.note(returned.bytes.as_slice());
+    fn call(self, due: Due) -> (Verdict, Option<Strip>) {
+        self.tally.note(due.bytes.as_slice());
         let verdict = if self.tally.goes_on() {
             Verdict::Again
         } else {
             Verdict::Stop
         };
-        self.tally.count(returned.n);
+        self.tally.count(due.n);
         (verdict, Some(self))
     }
 }

@@ -65,7 +65,7 @@
 #![tactic(auto)]
 
 pub use usb_core::{
-    AddError, Callback, Core, Once, Pending, Repeat, Setup, StoredCallback, SubmitError, Taken,
+    AddError, Callback, Core, Due, Once, Pending, Repeat, Setup, StoredCallback, SubmitError, Taken,
 };
 pub use usb_descriptors::{Config, read_config};
 pub use usb_device::{BoxedDevice, Device, TableDevice};

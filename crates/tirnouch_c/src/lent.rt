@@ -8,7 +8,7 @@ use std::alloc::Global;
 use std::mem;
 use std_alloc::vec::Lodged;
 use usb_core::Taken;
-use usb_model::{Buffer, BytesRead, Memory, Returned};
+use usb_model::{Buffer, BytesRead, Memory};
 
 /// The memory, of which none stays behind.
 pub fn lend(alloc: Global, memory: &mut LentMemory) -> Buffer
@@ -34,31 +34,19 @@ pub fn give_back(alloc: Global, taken: Taken<u64>, back: &mut LentMemory) -> Opt
     ensures { BytesGo taken result back.old back.new }
 {
     let Taken { returned, payload } = taken;
-    let Returned {
-        h,
-        n,
-        ep,
-        round,
-        status,
-        actual,
-        bytes,
-    } = returned;
+    let (mut due, bytes) = returned.split(alloc);
     match bytes.into_buffer().into_memory() {
         Memory::Lent(lent) => {
             *back = LentMemory::from_vec(lent);
             None
         }
-        Memory::Own(own) => Some(Taken {
-            returned: Returned {
-                h,
-                n,
-                ep,
-                round,
-                status,
-                actual,
-                bytes: BytesRead::from_buffer(Buffer::from_memory(alloc, Memory::Own(own))),
-            },
-            payload,
-        }),
+        Memory::Own(own) => {
+            let own = Buffer::from_memory(alloc, Memory::Own(own));
+            due.put_bytes(BytesRead::from_buffer(own));
+            Some(Taken {
+                returned: due,
+                payload,
+            })
+        }
     }
 }

@@ -100,7 +100,7 @@ module _ (setup : Setup) (test : Step → Bool) (silent : Passes_none test) wher
 
   ends : (h n : ℕ) (old new : Calling) → Ends setup h n old new → Quiet old → Quiet new
   ends h n old new (R.Ends.told k r makes) quiet = made (Answer h n Stop) (missed_by k old) new r (silent.answer h n Stop) makes (same old (missed_by k old) (missed_own k old) quiet)
-  ends h n old new (R.Ends.given_up k is) quiet = same old new (ap (λ c. c.own) is ∙ missed_own (suc k) old) quiet
+  ends h n old new (R.Ends.given_up k is often) quiet = same old new (ap (λ c. c.own) is ∙ missed_own (suc k) old) quiet
 
   resubmits : (h n : ℕ) (v : Verdict) (left : Bool) (old new : Calling) → Resubmits setup h n v left old new → Quiet old → Quiet new
   resubmits h n v left old new (R.Resubmits.asks_none stop it is) quiet = same old new (ap (λ c. c.own) is) quiet

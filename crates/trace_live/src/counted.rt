@@ -3,8 +3,8 @@
 use std::alloc::{AllocError, Global};
 use std::sync::Arc;
 use std::sync::atomic::{AtomicU64, Ordering};
-use usb_core::Callback;
-use usb_model::{Returned, Rule, Verdict};
+use usb_core::{Callback, Due};
+use usb_model::{Rule, Verdict};
 
 /// How many callbacks may be called still, before each is the last of its transfer.
 #[derive(Drop)]
@@ -63,9 +63,9 @@ impl Callback for Counted {
 
     ghost may_answer = { λ c r v. ⊤ };
 
-    fn call(self, returned: Returned) -> (Verdict, Option<Counted>) {
+    fn call(self, due: Due) -> (Verdict, Option<Counted>) {
         let verdict = if self.may_go_on() {
-            self.rule.verdict(returned.status, returned.round)
+            self.rule.verdict(due.status, due.round)
         } else {
             Verdict::Stop
         };

@@ -1,4 +1,5 @@
 pub mod Callbacks
+pub mod Due
 pub mod Props
 pub mod Homes
 pub mod Reports

@@ -1,7 +1,8 @@
 //! What the crates above know of a callback.
 
+use crate::due::Due;
 use crate::end::End;
-use usb_model::{Returned, Verdict};
+use usb_model::Verdict;
 
 /// What is stored with a transfer, and called when the transfer returns. Its law: each verdict fits its rule, and a
 /// repeating one comes back the same. What runs callbacks is generic in it, and so names no boxed closure.
@@ -22,10 +23,11 @@ pub trait Callback: Drop {
     /// The verdicts that its code may give when it is told this.
     ghost may_answer: { Self → Returned → Verdict → Type 0 };
 
-    /// Calls it: the verdict, and a repeating callback again; one that is called once is used up, and its verdict is Stop.
-    fn call(self, returned: Returned) -> (Verdict, Option<Self>)
-        ensures fits { Fits (rule self) returned result.0 }
-        ensures answered { may_answer self returned result.0 }
+    /// Calls it with what is due to it, which nobody can tell a second time: the verdict, and a repeating callback again; one that
+    /// is called once is used up, and its verdict is Stop.
+    fn call(self, due: Due) -> (Verdict, Option<Self>)
+        ensures fits { Fits (rule self) due result.0 }
+        ensures answered { may_answer self due result.0 }
         ensures back { is_some result.1 ≡ repeats self }
         ensures stops { repeats self ≡ false → result.0 ≡ Stop }
         ensures same { IfSome result.1 (λ c. c ≡ self) };

@@ -148,6 +148,7 @@ mod callback;
 mod calls;
 mod claim;
 mod drain;
+mod due;
 mod end;
 mod ends;
 mod errands;
@@ -187,6 +188,7 @@ mod verdicts;
 
 pub use callback::Callback;
 pub use calls::Core;
+pub use due::Due;
 pub use end::End;
 pub use events::Delivered;
 pub use inventory::WaitingResult;

@@ -9,6 +9,7 @@ ghost use Rattle.refine_core.specs.State.{IsState, result_of};
 ghost use Rattle.refine_core.specs.Steps.{DoesCoreStep};
 ghost use Rattle.usb_core.specs.Results.{CarriesOut, TakesDone};
 
+use crate::due::Due;
 use crate::parts::Parts;
 use std::alloc::AllocError;
 use usb_device::Device;
@@ -18,8 +19,8 @@ use usb_tables::{EndedTransfer, Transfer};
 /// A transfer that ended, as it goes out to its callback.
 #[derive(Drop)]
 pub struct Taken<P> {
-    /// What the callback is given.
-    pub returned: Returned,
+    /// What the callback is told.
+    pub returned: Due,
     /// What the caller kept with it.
     pub payload: P,
 }
@@ -60,16 +61,17 @@ impl<P, D: Device> Parts<P, D> {
             status,
         };
         self.callers.put_callback(name, x);
+        let due = Due::new(Returned {
+            h: name,
+            n,
+            ep,
+            round,
+            status,
+            actual: ending.actual,
+            bytes: BytesRead::from_buffer(bytes),
+        });
         Ok(Some(Taken {
-            returned: Returned {
-                h: name,
-                n,
-                ep,
-                round,
-                status,
-                actual: ending.actual,
-                bytes: BytesRead::from_buffer(bytes),
-            },
+            returned: due,
             payload,
         }))
     }
@@ -113,16 +115,17 @@ fn taken_of<P>(ended: EndedTransfer<P>) -> Taken<P>
         payload,
         ..
     } = transfer;
+    let due = Due::new(Returned {
+        h: name,
+        n,
+        ep: request.ep,
+        round,
+        status: ending.status,
+        actual: ending.actual,
+        bytes: BytesRead::from_buffer(bytes),
+    });
     Taken {
-        returned: Returned {
-            h: name,
-            n,
-            ep: request.ep,
-            round,
-            status: ending.status,
-            actual: ending.actual,
-            bytes: BytesRead::from_buffer(bytes),
-        },
+        returned: due,
         payload,
     }
 }

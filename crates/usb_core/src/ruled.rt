@@ -3,7 +3,8 @@
 ghost use Rattle.std.specs.Prelude.{◌≡◌, true};
 
 use crate::callback::Callback;
-use usb_model::{Returned, Rule, Verdict};
+use crate::due::Due;
+use usb_model::{Rule, Verdict};
 
 /// A repeating callback without code of its own: it answers what its rule says; under Free that it is at its end.
 #[derive(Clone, Copy, PartialEq, Eq, Debug)]
@@ -31,10 +32,7 @@ impl Callback for Ruled {
 
     ghost may_answer = { λ c r v. v ≡ verdict_of c.rule r.status r.round };
 
-    fn call(self, returned: Returned) -> (Verdict, Option<Ruled>) {
-        (
-            self.rule.verdict(returned.status, returned.round),
-            Some(self),
-        )
+    fn call(self, due: Due) -> (Verdict, Option<Ruled>) {
+        (self.rule.verdict(due.status, due.round), Some(self))
     }
 }

@@ -129,7 +129,7 @@ impl<P, D: Device> Core<P, D> {
                     },
                 ),
             ) => Ok(Stepped {
-                entry: entry_of(returned.h, Reply::Called(returned)),
+                entry: returned.into_entry(),
                 out: Some(out),
                 back: payload,
             }),

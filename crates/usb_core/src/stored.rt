@@ -6,6 +6,7 @@ ghost use Rattle.usb_core.specs.Callbacks.{Fits, InRange};
 ghost use Rattle.usb_model.specs.World.Plans.{once_only};
 
 use crate::callback::Callback;
+use crate::due::Due;
 use crate::end::End;
 use usb_model::{Returned, Rule, Verdict};
 
@@ -116,14 +117,14 @@ impl Callback for StoredCallback {
 
     ghost may_answer = { elim [ Repeating c ↦ (λ r v. (lent : _) × (lent.now ≡ r) × Repeat.post c.code lent v) | CalledOnce c ↦ (λ r v. Once.post c.code r tt) ] };
 
-    fn call(self, returned: Returned) -> (Verdict, Option<StoredCallback>) {
+    fn call(self, due: Due) -> (Verdict, Option<StoredCallback>) {
         match self {
             StoredCallback::Repeating(repeating) => {
-                let verdict = (repeating.code)(&returned);
+                let verdict = (repeating.code)(&due);
                 (verdict, Some(StoredCallback::Repeating(repeating)))
             }
             StoredCallback::CalledOnce(CalledOnce { code }) => {
-                code(returned);
+                code(due.into_returned());
                 (Verdict::Stop, None)
             }
         }

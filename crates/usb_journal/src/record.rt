@@ -266,10 +266,7 @@ fn called<P>(taken: Option<Taken<P>>, back: Option<P>) -> Stepped<P>
             back,
         },
         Some(Taken { returned, payload }) => Stepped {
-            entry: Entry {
-                owner: Some(returned.h),
-                reply: Reply::Called(returned),
-            },
+            entry: returned.into_entry(),
             out: Some(payload),
             back,
         },

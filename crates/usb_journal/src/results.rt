@@ -71,7 +71,7 @@ fn enter<L: Naming, P, J: Recorder>(
     ensures position { IsMoved position.old result.0 position.new }
     ensures saw { Sees position.old log.old.journal position.new log.new.journal }
 {
-    let Some(Taken { returned, payload }) = taken else {
+    let Some(taken) = taken else {
         let entry = Entry {
             owner: None,
             reply: Reply::Idle,
@@ -81,13 +81,6 @@ fn enter<L: Naming, P, J: Recorder>(
             None,
         );
     };
-    let entry = Entry {
-        owner: Some(returned.h),
-        reply: Reply::Called(returned),
-    };
-    let receipt = log.enter(position, Step::Take, caller, &entry, moment);
-    let Reply::Called(returned) = entry.reply else {
-        unreachable!()
-    };
-    (receipt, Some(Taken { returned, payload }))
+    let receipt = log.enter(position, Step::Take, caller, taken.returned.entry(), moment);
+    (receipt, Some(taken))
 }

@@ -179,6 +179,11 @@ none_ended {P = P} core setup w (c, keeps, shows) none = sym shows.results ∙ (
     by_first [] none = refl
     by_first (x ∷ xs) none = absurd cc
 
+-- a step that is no Take hands nothing out
+pub none_goes : {P : Type 0} (core : State P) (step : Step) → (step ≡ Take → ⊥) → handed_out core step ≡ None
+none_goes core Take apart = absurd (apart refl)
+none_goes core _ apart = refl
+
 -- what hands out something is a Take
 hands_out : {P : Type 0} (core : State P) (step : Step) → is_of_callback step ≡ false → handed_out core step ≡ None
 hands_out core Take none = absurd cc

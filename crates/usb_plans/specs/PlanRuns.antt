@@ -78,6 +78,11 @@ module _ {P : Type 0} where
   RunsToo (Called r) (Some c) old new = (h n : ℕ) → running_at new h n ≡ (if is_there r.h r.n h n then Some (record { returned = r; payload = c }) else running_at old h n)
   RunsToo reply out old new = (h n : ℕ) → running_at new h n ≡ running_at old h n
 
+  -- a reply tells of what went out: what is due to its callback
+  abbrev pub TellsOf : Reply → Option (Taken P) → Type 0
+  TellsOf reply None = Unit {0}
+  TellsOf reply (Some t) = reply ≡ Called t.returned
+
   -- the callback that came out with this result runs too: it is the very one that was kept with the result's transfer, and it is told this result as it is
   pub record ComesOut (r : Returned) (old new : PlanState P) : Type 0 where
     pub callback : P

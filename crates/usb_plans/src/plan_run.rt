@@ -1,16 +1,16 @@
 //! Pieces of plans, performed over the core: steps are made, and callbacks that return are called.
 
-ghost use Rattle.std.specs.Prelude.{◌≡◌, true, false, List, None, Some, IfOk, is_some, if◌then◌else◌};
+ghost use Rattle.std.specs.Prelude.{◌≡◌, true, false, List, None, Some, IfOk, is_some, if◌then◌else◌, option_map};
 ghost use Rattle.usb_core.specs.Callbacks.{Fits};
-ghost use Rattle.usb_model.specs.declared.step.Step.TheVariants.{Answer};
+ghost use Rattle.usb_model.specs.declared.step.Step.TheVariants.{Answer, Take};
 ghost use Rattle.usb_model.specs.declared.plan.Plan.TheVariants.{Return};
 ghost use Rattle.usb_model.specs.declared.verdict.Rule.{Rule};
 ghost use Rattle.usb_model.specs.Numbers.{takes_payload};
 ghost use Rattle.usb_model.specs.World.Plans.{first_stage, is_submission};
-ghost use Rattle.usb_core.specs.Public.{setup_of};
-ghost use Rattle.usb_core.specs.Steps.{left_over};
+ghost use Rattle.usb_core.specs.Public.{Carries, Kept, StillCarries, TurnsWorld, setup_of};
+ghost use Rattle.usb_core.specs.Steps.{GoesOut, first_payload, handed_out, kept_after, left_over};
 ghost use Rattle.proof_laws.specs.InCallbacks.{is_answer};
-ghost use Rattle.usb_plans.specs.PlanRuns.{Calls, CallsThere, MakesAnswer, MakesStep, Performs, Returns, RunBehind, RunBehindReturn, RunBehindStep, RunsToo, ShowsStage, entries_of, given_back, is_verdict};
+ghost use Rattle.usb_plans.specs.PlanRuns.{Calls, CallsThere, MakesAnswer, MakesStep, Performs, Returns, RunBehind, RunBehindReturn, RunBehindStep, RunsToo, ShowsStage, TellsOf, entries_of, given_back, is_verdict};
 
 use crate::running_callbacks::RunningCallbacks;
 use std::alloc::{AllocError, Global};
@@ -63,6 +63,79 @@ fn copied(returned: &Returned) -> Result<Returned, AllocError>
     })
 }
 
+/// What a step gave, with what is due to the callback that went out by it.
+#[derive(Drop)]
+struct Went<C> {
+    /// The entry of the step.
+    entry: Entry,
+    /// What went out.
+    taken: Option<Taken<C>>,
+    /// The callback that was given with the step; None where a transfer was submitted with it.
+    back: Option<C>,
+}
+
+/// Makes a step. What goes out by it comes with what is due to its callback, of which the entry has a copy.
+fn went<C: Drop, D: Device>(
+    core: &mut Core<C, D>,
+    step: Step,
+    callback: Option<C>,
+) -> Result<Went<C>, AllocError>
+    requires submits { takes_payload step ≡ true → is_some callback ≡ true }
+    ensures turned { IfOk result (λ x. TurnsWorld core.old step x.entry core.new) }
+    ensures out { IfOk result (λ x. option_map (λ t. t.payload) x.taken ≡ handed_out core.old step) }
+    ensures told { IfOk result (λ x. TellsOf x.entry.reply x.taken) }
+    ensures back { IfOk result (λ x. x.back ≡ left_over (takes_payload step) x.entry.reply callback) }
+    ensures carries { IfOk result (λ x. (kept : Kept C) → Carries kept core.old → Carries (kept_after kept step x.entry callback) core.new) }
+    ensures goes_out { IfOk result (λ x. (kept : Kept C) → Carries kept core.old → GoesOut kept (option_map (λ t. t.payload) x.taken) x.entry.reply) }
+{
+    match step {
+        Step::Take => took(core, callback),
+        _ => {
+            let Ok(Stepped { entry, back, .. }) = core.step(step, callback) else {
+                return Err(AllocError);
+            };
+            Ok(Went {
+                entry,
+                taken: None,
+                back,
+            })
+        }
+    }
+}
+
+/// The oldest result goes out.
+fn took<C: Drop, D: Device>(core: &mut Core<C, D>, back: Option<C>) -> Result<Went<C>, AllocError>
+    ensures turned { IfOk result (λ x. TurnsWorld core.old Take x.entry core.new) }
+    ensures out { IfOk result (λ x. option_map (λ t. t.payload) x.taken ≡ first_payload core.old) }
+    ensures told { IfOk result (λ x. TellsOf x.entry.reply x.taken) }
+    ensures back { IfOk result (λ x. x.back ≡ back) }
+    ensures carries { IfOk result (λ x. StillCarries core.old core.new) }
+    ensures goes_out { IfOk result (λ x. (kept : Kept C) → Carries kept core.old → GoesOut kept (option_map (λ t. t.payload) x.taken) x.entry.reply) }
+{
+    match core.take() {
+        Ok(Some(taken)) => {
+            let entry = Entry {
+                owner: Some(taken.returned.h),
+                reply: Reply::Called(copied(&taken.returned)?),
+            };
+            Ok(Went {
+                entry,
+                taken: Some(taken),
+                back,
+            })
+        }
+        Ok(None) => Ok(Went {
+            entry: Entry {
+                owner: None,
+                reply: Reply::Idle,
+            },
+            taken: None,
+            back,
+        }),
+        Err(error) => Err(error),
+    }
+}
+
 /// A copy of a piece of a plan, which can be performed where the piece itself is still needed.
 pub fn copy_of(piece: &Plan) -> Result<Plan, AllocError>
     ensures { IfOk result (λ copy. copy ≡ piece.now) }
@@ -110,7 +183,7 @@ impl<C: Callback, D: Device> PlanRun<C, D> {
         }
     }
 
-    /// Makes a step that is no verdict. A callback that comes out with its transfer runs from then on.
+    /// Makes a step that is no verdict. A callback that goes out with its transfer runs from then on.
     fn make(&mut self, step: Step, callback: Option<C>) -> Result<Performed<C>, AllocError>
         requires submits { takes_payload step ≡ true → is_some callback ≡ true }
         requires no_verdict { is_answer step ≡ false }
@@ -119,10 +192,8 @@ impl<C: Callback, D: Device> PlanRun<C, D> {
         ensures out { IfOk result (λ x. RunBehindStep x.entry.reply self.old self.new) }
         ensures back { IfOk result (λ x. x.back ≡ left_over (takes_payload step) x.entry.reply callback) }
     {
-        let Ok(Stepped { entry, out, back }) = self.core.step(step, callback) else {
-            return Err(AllocError);
-        };
-        self.keep(&entry, out)?;
+        let Went { entry, taken, back } = went(&mut self.core, step, callback)?;
+        self.keep(&entry, taken)?;
         Ok(Performed {
             entry,
             stop: None,
@@ -130,24 +201,17 @@ impl<C: Callback, D: Device> PlanRun<C, D> {
         })
     }
 
-    /// A callback that came out with its transfer runs.
-    fn keep(&mut self, entry: &Entry, out: Option<C>) -> Result<(), AllocError>
+    /// A callback that went out with its transfer, which this entry tells of, runs.
+    fn keep(&mut self, entry: &Entry, taken: Option<Taken<C>>) -> Result<(), AllocError>
+        requires told { TellsOf entry.now.reply taken }
         ensures core { IfOk result (λ _. self.new.core ≡ self.old.core) }
-        ensures runs { IfOk result (λ _. RunsToo entry.now.reply out self.old.running self.new.running) }
+        ensures runs { IfOk result (λ _. RunsToo entry.now.reply (option_map (λ t. t.payload) taken) self.old.running self.new.running) }
     {
-        let Some(payload) = out else {
+        let Some(taken) = taken else {
             return Ok(());
         };
-        match &entry.reply {
-            Reply::Called(returned) => {
-                let taken = Taken {
-                    returned: copied(returned)?,
-                    payload,
-                };
-                self.running.put(returned.h, taken)
-            }
-            _ => Ok(()),
-        }
+        let h = taken.returned.h;
+        self.running.put(h, taken)
     }
 
     /// Makes the verdict of a callback that was called.

@@ -84,10 +84,10 @@ module _ (setup : Setup) where
     pub packet : Serves look.serve old between
     pub order : DoesIf look.command Command between new
 
-  -- the end of a transfer's callback is told, after memory was refused to it some times or never; or the worker gives up behind such a refusal
+  -- the end of a transfer's callback is told, after memory was refused to it some times or never; or the worker gives up behind such a refusal, where memory was refused to it a hundred times at least
   pub data Ends (h n : ℕ) (old new : Calling) : Type 0 where
     told : (k : ℕ) (r : Receipted) → Makes setup (Answer h n Stop) (missed_by k old) new r → Ends h n old new
-    given_up : (k : ℕ) → new ≡ missed_by (suc k) old → Ends h n old new
+    given_up : (k : ℕ) → new ≡ missed_by (suc k) old → 100 ≤ new.missed → Ends h n old new
 
   -- what comes of the resubmission that a verdict asks for, if it asks for one; left: whether the callback isn't called again
   pub data Resubmits (h n : ℕ) (v : Verdict) (left : Bool) (old new : Calling) : Type 0 where

@@ -101,8 +101,9 @@ fn stop<L: Naming, C: Callback, D: Device, J: Recorder, R: Wait>(
     h: Name,
     n: u64,
 )
+    requires counted { AreCounted tries.old.refused caller.old }
     ensures told { Ends L.setup h n caller.old caller.new }
-    ensures counted { AreCounted tries.old.refused caller.old → AreCounted tries.new.refused caller.new }
+    ensures counted { AreCounted tries.new.refused caller.new }
 {
     for _ in rt.forever() {
         if library.stop(rt, caller, h, n).is_ok() {
@@ -141,9 +142,10 @@ pub(crate) fn answer<L: Naming, C: Callback, D: Device, J: Recorder, R: Wait>(
     verdict: Verdict,
     callback: Option<C>,
 )
-    requires { is_some callback ≡ false → verdict ≡ Stop }
+    requires stops { is_some callback ≡ false → verdict ≡ Stop }
+    requires counted { AreCounted tries.old.refused caller.old }
     ensures told { Tells L.setup h n verdict caller.old caller.new }
-    ensures counted { AreCounted tries.old.refused caller.old → AreCounted tries.new.refused caller.new }
+    ensures counted { AreCounted tries.new.refused caller.new }
 {
     let Some(callback) = callback else {
         stop(rt, library, caller, tries, h, n);

@@ -70,8 +70,9 @@ fn call_back<L: Naming, C: Callback, D: Device, J: Recorder, G: Gate, R: Wait>(
     tries: &mut Tries,
     taken: Taken<C>,
 )
+    requires counted { AreCounted tries.old.refused caller.old }
     ensures told { (v : Verdict) × C.may_answer taken.payload taken.returned v × Fits (C.rule taken.payload) taken.returned v × Tells L.setup taken.returned.h taken.returned.n v caller.old caller.new }
-    ensures counted { AreCounted tries.old.refused caller.old → AreCounted tries.new.refused caller.new }
+    ensures counted { AreCounted tries.new.refused caller.new }
 {
     let Taken {
         returned,
@@ -93,8 +94,9 @@ fn call_all<L: Naming, C: Callback, D: Device, J: Recorder, G: Gate, R: Wait>(
     tries: &mut Tries,
     taken: &mut Vec<Taken<C>>,
 )
+    requires counted { AreCounted tries.old.refused caller.old }
     ensures told { TellsAll L.setup (MayAnswer C.may_answer C.rule) (map (λ t. t.returned) taken.old.items) caller.old caller.new }
-    ensures counted { AreCounted tries.old.refused caller.old → AreCounted tries.new.refused caller.new }
+    ensures counted { AreCounted tries.new.refused caller.new }
     ensures empty { taken.new.items ≡ [] }
 {
     for each in taken.drain(..) {
@@ -113,9 +115,10 @@ fn take_and_call<L: Naming, C: Callback, D: Device, J: Recorder, G: Gate, R: Wai
     events: &Events,
     taken: &mut Vec<Taken<C>>,
 )
+    requires counted { AreCounted tries.old.refused caller.old }
     requires empty { taken.old.items ≡ [] }
     ensures made { CallsBackIf L.setup (MayAnswer C.may_answer C.rule) events.now.take caller.old caller.new }
-    ensures counted { AreCounted tries.old.refused caller.old → AreCounted tries.new.refused caller.new }
+    ensures counted { AreCounted tries.new.refused caller.new }
     ensures empty { taken.new.items ≡ [] }
 {
     if !events.take {
@@ -139,9 +142,10 @@ fn turn<L: Naming, C: Callback, D: Device, J: Recorder, G: Gate, R: Wait>(
     events: &Events,
     taken: &mut Vec<Taken<C>>,
 )
+    requires counted { AreCounted tries.old.refused caller.old }
     requires empty { taken.old.items ≡ [] }
     ensures made { Handles L.setup (MayAnswer C.may_answer C.rule) events.now caller.old caller.new }
-    ensures counted { AreCounted tries.old.refused caller.old → AreCounted tries.new.refused caller.new }
+    ensures counted { AreCounted tries.new.refused caller.new }
     ensures empty { taken.new.items ≡ [] }
 {
     deliver(rt, library, gate, caller, past, tries, events);

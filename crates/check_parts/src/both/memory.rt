@@ -72,11 +72,10 @@ fn answered(core: &mut Numbered, reader: &Reader) -> Result<Taken<u8>> {
 
 /// An error unless the result has the device's packet, in memory of just its room.
 fn has_bytes(taken: Taken<u8>) -> Result<()> {
-    let memory = taken.returned.bytes.into_buffer();
+    let Taken { returned, payload } = taken;
+    let memory = returned.into_returned().bytes.into_buffer();
     expect(
-        taken.payload == PAYLOAD
-            && memory.as_slice() == PACKET.as_slice()
-            && memory.capacity() == 8,
+        payload == PAYLOAD && memory.as_slice() == PACKET.as_slice() && memory.capacity() == 8,
         "a read has other bytes",
     )
 }

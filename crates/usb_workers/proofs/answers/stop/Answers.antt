@@ -1,11 +1,11 @@
-use Rattle.std.proofs.Common.{suc, sym, ◌∙◌}
+use Rattle.std.proofs.Common.{arith, suc, sym, ◌∙◌}
 use Rattle.usb_workers.specs.Rounds.{Ends}
 use Rattle.usb_workers.specs.Rounds as R
 use Rattle.usb_workers.proofs.Told.{ends_told, not_missed, once_counted, once_more}
 use Rattle.usb_workers.proofs.answers.stop.Goals as goal
 
 pub loop-init : goal.loop-init
-loop-init g c = record { often = (0, not_missed _); counted = λ counted. counted }
+loop-init g c = record { often = (0, not_missed _); counted = c.requires }
 
 pub returns-then-is_ok-clause-told : goal.returns-then-is_ok-clause-told
 returns-then-is_ok-clause-told g c =
@@ -15,7 +15,9 @@ returns-then-is_ok-clause-told g c =
 pub returns-then-are_over-clause-told : goal.returns-then-are_over-clause-told
 returns-then-are_over-clause-told g c =
     let i = c.loop.invariant.often in
-    R.Ends.given_up i.0 (once_more g.L.Naming.setup i.0 c.args.caller.now c.loop.caller c.stop.new.caller c.stop.result i.1 c.stop.ensures.refused (sym c.is_ok.ensures.value ∙ c.if-is_ok.false))
+    let none = sym c.is_ok.ensures.value ∙ c.if-is_ok.false in
+    let counted = once_counted c.loop.tries.refused c.refused.new.self.refused c.loop.caller c.stop.new.caller c.stop.result c.stop.ensures.refused none c.refused.ensures c.loop.invariant.counted in
+    R.Ends.given_up i.0 (once_more g.L.Naming.setup i.0 c.args.caller.now c.loop.caller c.stop.new.caller c.stop.result i.1 c.stop.ensures.refused none) (omega (arith, counted.0, c.are_over.ensures c.if-are_over.true))
 
 pub loop-preserved : goal.loop-preserved
 loop-preserved g c =
@@ -23,10 +25,10 @@ loop-preserved g c =
     let none = sym c.is_ok.ensures.value ∙ c.if-is_ok.false in
     record {
       often = (suc i.0, once_more g.L.Naming.setup i.0 c.args.caller.now c.loop.caller c.stop.new.caller c.stop.result i.1 c.stop.ensures.refused none);
-      counted = λ counted. once_counted c.loop.tries.refused c.refused.new.self.refused c.loop.caller c.stop.new.caller c.stop.result c.stop.ensures.refused none c.refused.ensures (c.loop.invariant.counted counted);
+      counted = once_counted c.loop.tries.refused c.refused.new.self.refused c.loop.caller c.stop.new.caller c.stop.result c.stop.ensures.refused none c.refused.ensures c.loop.invariant.counted;
     }
 
 pub returns-then-are_over-clause-counted : goal.returns-then-are_over-clause-counted
 returns-then-are_over-clause-counted g c =
     let none = sym c.is_ok.ensures.value ∙ c.if-is_ok.false in
-    λ counted. once_counted c.loop.tries.refused c.refused.new.self.refused c.loop.caller c.stop.new.caller c.stop.result c.stop.ensures.refused none c.refused.ensures (c.loop.invariant.counted counted)
+    once_counted c.loop.tries.refused c.refused.new.self.refused c.loop.caller c.stop.new.caller c.stop.result c.stop.ensures.refused none c.refused.ensures c.loop.invariant.counted

@@ -6,5 +6,5 @@ use Rattle.usb_workers.proofs.answers.stop.Given as goal
 abbrev pub invariant-loop : goal.invariant-loop
 invariant-loop g l = record {
   often : (k : ℕ) × (l.caller ≡ missed_by k l.initial.caller);
-  counted : AreCounted l.initial.tries.refused l.initial.caller → AreCounted l.tries.refused l.caller;
+  counted : AreCounted l.tries.refused l.caller;
 }

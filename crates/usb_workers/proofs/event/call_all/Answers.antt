@@ -13,6 +13,6 @@ loop-each-preserved g c =
       told =
           rw (map-append (λ t. t.returned) c.loop-each.yielded (x ∷ []))
           (tells_more g.L.Naming.setup (MayAnswer g.C.Callback.may_answer g.C.Callback.rule) (map (λ t. t.returned) c.loop-each.yielded) x.returned told.0 c.args.caller.now c.loop-each.caller c.call_back.new.caller i.told (x.payload, told.1, told.2) told.3);
-      counted = λ counted. c.call_back.ensures.counted (i.counted counted);
+      counted = c.call_back.ensures.counted;
       left = append_assoc c.loop-each.yielded (x ∷ []) _ ∙ (ap (λ l. c.loop-each.yielded ++ l) (sym c.in-Some.ensures.steps.0) ∙ i.left);
     }

@@ -7,6 +7,6 @@ use Rattle.usb_workers.proofs.event.call_all.Given as goal
 abbrev pub invariant-loop-each : goal.invariant-loop-each
 invariant-loop-each g l = record {
   told : TellsAll g.L.Naming.setup (MayAnswer g.C.Callback.may_answer g.C.Callback.rule) (map (λ t. t.returned) l.yielded) l.initial.caller l.caller;
-  counted : AreCounted l.initial.tries.refused l.initial.caller → AreCounted l.tries.refused l.caller;
+  counted : AreCounted l.tries.refused l.caller;
   left : l.yielded ++ drain_items l.each-iterator ≡ drain_items l.initial.each-iterator;
 }

@@ -6,10 +6,13 @@ use Rattle.usb_workers.proofs.event.event_loop.Goals as goal
 pub loop-init : goal.loop-init
 loop-init g c = record { rounds = subst (λ x. R.Rounds (ShowsEvents g.L.Naming.setup) (R.Handles g.L.Naming.setup (R.MayAnswer g.C.Callback.may_answer g.C.Callback.rule)) c.args.caller x) (sym c.past.ensures.same) R.Rounds.none; counted = (omega (arith, c.new-tries.ensures), omega (arith, c.new-tries.ensures)); empty = c.new-taken.ensures.items }
 
+pub turn-requires-clause-counted : goal.turn-requires-clause-counted
+turn-requires-clause-counted g c = (omega (arith, c.loop.invariant.counted.0, c.events.ensures.looks.missed), c.loop.invariant.counted.1)
+
 pub loop-preserved : goal.loop-preserved
 loop-preserved g c = record {
   rounds = R.Rounds.more c.in-Some-events.events c.loop.caller c.events.new.caller c.turn.new.caller c.loop.invariant.rounds c.events.ensures.looks c.in-Some-events.ensures.events c.turn.ensures.made;
-  counted = c.turn.ensures.counted (omega (arith, c.loop.invariant.counted.0, c.events.ensures.looks.missed), c.loop.invariant.counted.1);
+  counted = c.turn.ensures.counted;
   empty = c.turn.ensures.empty;
 }
 
@@ -22,5 +25,4 @@ returns-then-are_over-clause-rounds g c =
 
 pub returns-then-are_over-clause-ended : goal.returns-then-are_over-clause-ended
 returns-then-are_over-clause-ended g c =
-    let counted = c.turn.ensures.counted (omega (arith, c.loop.invariant.counted.0, c.events.ensures.looks.missed), c.loop.invariant.counted.1) in
-    inr (omega (arith, counted.0, c.are_over.ensures c.if-are_over.true))
+    inr (omega (arith, c.turn.ensures.counted.0, c.are_over.ensures c.if-are_over.true))

@@ -3,6 +3,7 @@ use Rattle.std.proofs.Common.{◌≡◌, ℕ, ◌<◌, ap, refl, sym, subst, ◌
 use Rattle.std.specs.Prelude.{OnErr, slice_get}
 use Rattle.std.proofs.lemmas.Option.{same_Some}
 use Rattle.usb_model.specs.declared.step.Step.TheVariants.{Take}
+use Rattle.usb_model.specs.declared.reply.Returned.{Returned}
 use Rattle.usb_model.specs.Setup.{endpoint_id}
 use Rattle.usb_tables.specs.HandleStates.{callback_at, results_at}
 use Rattle.usb_tables.specs.declared.transfer.Transfer.{Transfer as InFlight}
@@ -64,12 +65,14 @@ returns-clause-taken g c =
     let x : EndedOf (InFlight g.row.P.Denot) = ended_of c.in-Some-take.field-0 in
     let first : slice_get old.flights.ended 0 ≡ Some x = sym c.in-Some-take.ensures.value in
     let name : c.in-Some.first.now.name ≡ x.transfer.name = same_name _ x (c.in-Some.ensures ∙ first) in
-    subst (λ (s : State g.row.P.Denot). DoesCoreStep s Take (called_entry (Some (record (returned_of (result_of x)) { h = c.in-Some.first.now.name; bytes = c.from_buffer.result }))) new) c.self.view_is
+    let told : Returned = record (returned_of (result_of x)) { h = c.in-Some.first.now.name; bytes = c.from_buffer.result } in
+    subst (λ (r : Returned). DoesCoreStep c.args.self.now Take (called_entry (Some r)) new) (sym c.new-due.ensures)
+    (subst (λ (s : State g.row.P.Denot). DoesCoreStep s Take (called_entry (Some told)) new) c.self.view_is
     (takes_first old new x c.in-Some.first.now.name c.from_buffer.result first name c.from_buffer.ensures refl refl c.take.ensures.lines c.take.ensures.keys refl c.take.ensures.ended
     (calls_by old.callers c.reserve_callback.new.self c.result_taken.new.self c.put_callback.new.self c.in-Some.first.now.name _
     c.reserve_callback.ensures.numbers c.reserve_callback.ensures.callbacks c.reserve_callback.ensures.results c.reserve_callback.ensures.counts
     c.result_taken.ensures.results c.result_taken.ensures.numbers c.result_taken.ensures.callbacks c.result_taken.ensures.counts
-    c.put_callback.ensures.callbacks c.put_callback.ensures.counts c.put_callback.ensures.numbers c.put_callback.ensures.results))
+    c.put_callback.ensures.callbacks c.put_callback.ensures.counts c.put_callback.ensures.numbers c.put_callback.ensures.results)))
 
 pub returns-in_err-reserve_callback-clause-still : goal.returns-in_err-reserve_callback-clause-still
 returns-in_err-reserve_callback-clause-still g c =
@@ -82,7 +85,7 @@ returns-clause-carries g c = λ kept carried.
     let x : EndedOf (InFlight g.row.P.Denot) = ended_of c.in-Some-take.field-0 in
     let first : slice_get old.flights.ended 0 ≡ Some x = sym c.in-Some-take.ensures.value in
     let name : c.in-Some.first.now.name ≡ x.transfer.name = same_name _ x (c.in-Some.ensures ∙ first) in (
-      ap (λ (h : ℕ). kept h x.transfer.n) name ∙ goes_out old x first kept (subst (λ (s : State g.row.P.Denot). Carries kept s) (sym c.self.view_is) carried),
+      ap (λ (r : Returned). kept r.h r.n) c.new-due.ensures ∙ ap (λ (h : ℕ). kept h x.transfer.n) name ∙ goes_out old x first kept (subst (λ (s : State g.row.P.Denot). Carries kept s) (sym c.self.view_is) carried),
       parts_follow c.args.self.now _ c.self.view_is c.take.new.self c.put_callback.new.self (follows_take old.flights c.take.new.self c.take.ensures.lines c.take.ensures.ended)
           (λ h. c.put_callback.ensures.numbers h ∙ c.result_taken.ensures.numbers h ∙ c.reserve_callback.ensures.numbers h) kept carried,
     )
