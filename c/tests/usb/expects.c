@@ -5,7 +5,6 @@
 
 #include <stdio.h>
 #include <stdlib.h>
-#include <string.h>
 #include <sys/wait.h>
 #include <unistd.h>
 
@@ -23,20 +22,11 @@ static void end_judged(void)
     show_errors();
 }
 
-static int read_digits(const char *digits, unsigned char *data)
-{
-    unsigned byte;
-    int count = 0;
-    for (; *digits && sscanf(digits, "%2x", &byte) == 1; digits += 2)
-        data[count++] = (unsigned char)byte;
-    return count;
-}
-
 /* A packet of these bytes, which moves whole; where it waits it is given up soon. */
 static void put(unsigned char ep, const char *digits)
 {
     unsigned char data[64] = { 0 };
-    int moved = 0, length = read_digits(digits, data), result = libusb_bulk_transfer(handle, ep, data, length, &moved, SHORT);
+    int moved = 0, length = (int)read_digits(digits, data), result = libusb_bulk_transfer(handle, ep, data, length, &moved, SHORT);
     if (result || moved != length)
         answer("write", result);
 }
@@ -45,7 +35,7 @@ static void ask_to(const char *setup, const char *digits)
 {
     unsigned char bytes_of[8] = { 0 }, data[64] = { 0 };
     read_digits(setup, bytes_of);
-    int length = read_digits(digits, data);
+    int length = (int)read_digits(digits, data);
     int result = libusb_control_transfer(handle, bytes_of[0], bytes_of[1], (uint16_t)(bytes_of[2] | bytes_of[3] << 8),
                                          (uint16_t)(bytes_of[4] | bytes_of[5] << 8), data, (uint16_t)length, 1000);
     if (result != length)

@@ -4,7 +4,6 @@
 
 #include <stdio.h>
 #include <stdlib.h>
-#include <string.h>
 #include <unistd.h>
 
 #define SHORT 100
@@ -22,15 +21,6 @@ static void write_file(const char *name, const void *data, size_t length)
     FILE *file = fopen(name, "wb");
     if (!file || fwrite(data, 1, length, file) != length || fclose(file))
         exit(1);
-}
-
-static size_t read_digits(const char *digits, unsigned char *data)
-{
-    unsigned byte;
-    size_t count = 0;
-    for (; *digits && sscanf(digits, "%2x", &byte) == 1; digits += 2)
-        data[count++] = (unsigned char)byte;
-    return count;
 }
 
 /* 20 bytes that count from 0, four, and none; descriptors as Linux has them; and a file that is too long. */
@@ -135,17 +125,8 @@ static void beside_the_text(void)
 static void refuse(const char *what, const char *more)
 {
     char text[400];
-    libusb_context *own = NULL;
-    puts(what);
     snprintf(text, sizeof text, "%s%s", STANDARD, more);
-    if (tirnouch_plug(text, strlen(text)))
-        exit(1);
-    hear_errors();
-    int result = libusb_init(&own);
-    show_errors();
-    answer("init", result);
-    if (!result)
-        libusb_exit(own);
+    refuse_text(what, text);
 }
 
 static void faults(void)

@@ -242,6 +242,28 @@ void show_errors(void)
     fclose(errors);
 }
 
+void refuse_text(const char *what, const char *text)
+{
+    libusb_context *own = NULL;
+    puts(what);
+    require(tirnouch_plug(text, strlen(text)) == 0, "plug");
+    hear_errors();
+    int result = libusb_init(&own);
+    show_errors();
+    answer("init", result);
+    if (!result)
+        libusb_exit(own);
+}
+
+size_t read_digits(const char *digits, unsigned char *data)
+{
+    unsigned byte;
+    size_t count = 0;
+    for (; *digits && sscanf(digits, "%2x", &byte) == 1; digits += 2)
+        data[count++] = (unsigned char)byte;
+    return count;
+}
+
 long long clock_now(void)
 {
     struct timespec now;

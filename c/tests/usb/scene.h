@@ -64,6 +64,11 @@ void took(unsigned char ep);
 void hear_errors(void);
 void show_errors(void);
 
+/* Plugs in the devices of a text and begins a context of its own: prints what is said of the text on standard error, and the answer. */
+void refuse_text(const char *what, const char *text);
+/* The bytes that these hexadecimal digits spell: how many they are. */
+size_t read_digits(const char *digits, unsigned char *data);
+
 /* Milliseconds of a clock that only goes on. */
 long long clock_now(void);
 /* Whether time passes only where nothing else is to be done: from the next scene on. */

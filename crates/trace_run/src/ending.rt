@@ -20,7 +20,7 @@ use usb_model::{Plan, Sequence};
 use usb_plans::{PlanRun, next_callback};
 
 /// Performs a piece of a plan. An error where memory is refused.
-fn perform_piece<C: Callback, D: Device>(
+pub fn perform_piece<C: Callback, D: Device>(
     run: &mut PlanRun<C, D>,
     piece: Plan,
     callback: Option<C>,

@@ -27,7 +27,7 @@
 //! - `stepwise.rt`, specs/Stepwise, proofs/Lined: the same, each entry behind its step's line
 //! - `capture.rt`, specs/Capture, proofs/Captured: the same as a capture of usbmon, by the definitions of `trace_capture`
 //! - `drawing.rt`: a plan run by the core, and drawn
-//! - `ending.rt`: a plan run by the core to its end, for what is left there
+//! - `ending.rt`: a piece of a plan performed by the core, and a plan run to its end, for what is left there
 //! - proofs/Printed: how far a run is, and what of its lines is written
 //!
 //! # Contracts
@@ -37,6 +37,7 @@
 //!   transfer in line, waiting or ended, a halt, and how many answers are unused; then its orders, events and results,
 //!   and its callbacks by rising number. All of it, in order, and nothing else. The core is used up: its orders are
 //!   carried out and its events handled, since their entries tell them. No premise
+//! - `perform_piece`: a piece of a plan is performed on a run, and the run shows what comes of it (`Performs`)
 //! - `lines_of`, the text of `Left`: a line each, byte for byte
 #![tactic(auto)]
 
@@ -55,7 +56,7 @@ mod tasks;
 
 pub use behind::left_behind;
 pub use devices::parts_of;
-pub use ending::run_to_end;
+pub use ending::{perform_piece, run_to_end};
 pub use left::{Left, Thing};
 pub use left_lines::lines_of;
 pub use lines::{Parts, write_rest};

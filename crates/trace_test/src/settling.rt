@@ -1,20 +1,20 @@
 //! The steps of lines that settle, which are those of one run that stays open from a test's first line to its last.
 
-ghost use Rattle.std.specs.Prelude.{◌≡◌, ◌+◌, ◌≤◌, true, false, is_some, IfOk, IfSome, List, length, if◌then◌else◌};
+ghost use Rattle.std.specs.Prelude.{◌≡◌, ◌+◌, ◌≤◌, true, false, IfOk, IfSome, length, if◌then◌else◌};
 ghost use Rattle.std.specs.List.{AllByRecursion};
-ghost use Rattle.usb_model.specs.declared.entry.Entry.{Entry};
 ghost use Rattle.usb_model.specs.declared.plan.Plan.TheVariants.{Do};
 ghost use Rattle.usb_model.specs.Setup.{Setup};
 ghost use Rattle.usb_model.specs.World.{World};
 ghost use Rattle.usb_model.specs.World.Plans.{is_submission};
 ghost use Rattle.usb_core.specs.Public.{ShowsWorld};
 ghost use Rattle.usb_device.specs.Scripts.{CanBeMade};
-ghost use Rattle.usb_plans.specs.PlanRuns.{Performs, is_verdict};
+ghost use Rattle.usb_plans.specs.PlanRuns.{is_verdict};
 ghost use Rattle.trace_test.specs.Expanded.{settling_line};
 ghost use Rattle.trace_test.specs.Settling.{SettlesFrom, SettlesOnce, settling_at, step_of};
 
 use crate::expanded::{Expanded, Repeated, is_settle, times_of};
 use std::alloc::{AllocError, Global};
+use trace_run::perform_piece;
 use trace_scenario::{Line, Scenario, read_scenario};
 use usb_core::{Callback, Core, Ruled, scripted_setup};
 use usb_device::{Device, ScriptedDevice, TableDevice};
@@ -79,20 +79,6 @@ fn next_settling<C: Callback, D: Device>(core: &Core<C, D>) -> Option<Settling>
     None
 }
 
-/// Performs a piece of a plan. An error where memory is refused.
-fn perform<C: Callback, D: Device>(
-    run: &mut PlanRun<C, D>,
-    piece: Plan,
-    callback: Option<C>,
-) -> Result<(), AllocError>
-    requires submits { is_submission piece ≡ true → is_some callback ≡ true }
-    requires no_verdict { is_verdict piece ≡ false }
-    ensures { IfOk result (λ _. (entries : List Entry) × Performs C.rule run.old piece callback entries run.new) }
-{
-    let _ = run.perform(piece, callback)?;
-    Ok(())
-}
-
 /// Makes the next step that settles, and keeps it: whether there was one.
 fn settle_once<C: Callback, D: Device>(
     run: &mut PlanRun<C, D>,
@@ -104,7 +90,7 @@ fn settle_once<C: Callback, D: Device>(
     let Some(step) = next_settling(run.core()) else {
         return Ok(false);
     };
-    perform(run, step.piece(), None)?;
+    perform_piece(run, step.piece(), None)?;
     steps.push(step)?;
     Ok(true)
 }
@@ -141,7 +127,7 @@ fn perform_bare<D: Device>(run: &mut PlanRun<Ruled, D>, piece: Plan) -> Result<(
     if !is_bare(&piece) {
         return Ok(());
     }
-    perform(run, piece, None)
+    perform_piece(run, piece, None)
 }
 
 /// Performs what a line says, if it says a piece of a plan.
@@ -149,7 +135,7 @@ fn perform_said<D: Device>(run: &mut PlanRun<Ruled, D>, said: Line) -> Result<()
     match said {
         Line::Submit { h, request, rule } => {
             let piece = Plan::Do(Step::Submit { h, request });
-            perform(run, piece, Some(Ruled::new(rule)))
+            perform_piece(run, piece, Some(Ruled::new(rule)))
         }
         Line::Piece(piece) => perform_bare(run, piece),
         Line::Device { .. } | Line::Script { .. } | Line::Feed { .. } => Ok(()),
