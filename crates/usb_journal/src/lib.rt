@@ -53,7 +53,8 @@
 //!   steps that the definitions say are due at that moment (`due` of the journal with its moments), in their order,
 //!   as asked for by the caller; a receipt for each; and the position goes behind them. After want of memory nothing changed
 //! - `next_len`, `pending`, `has_order`: what the world where the journal's run ends says
-//! - `look`, `look_for_events`: the same, for a caller whose position then has seen all of the journal so far (`Looks`)
+//! - `look`, `look_for_events`: the same, for a caller whose position then has seen all of the journal so far (`Looks`), which begins
+//!   with what anybody saw once (`Past`); so with `tick`, `deliver_all`, `take_all`
 //! - `position`: each has a number of its own, from 0 on, and no places yet
 //! - `close`, `Closing::take_back`, `Closing::finish`: at each receipt's place stands what the receipt says, and no two have
 //!   one place; the journal is a run from the devices that `new` was given; each position that came back had seen a

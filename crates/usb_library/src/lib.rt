@@ -49,8 +49,10 @@
 //!   seen (`ShowsPending`, `ShowsEvents`): so it is at or behind its last call, and `finish` says that it was the journal's.
 //!   None only where what it saw has nothing of that worker's part (`LacksWork`, `LacksEvents`). That the workers were asked to end then is
 //!   no clause
-//! - `Library::pending`: what was to be done at some moment: in the world where the run of the library's steps until then
-//!   ended (`WasPending`). Which moment that was, no contract says, since it has no caller
+//! - `Library::pending`: the same of all parts
+//! - `Library::past`: a `Past` of what a caller has seen: the journal began so, and will for good. `work`, `events`, `pending`, `tick`,
+//!   `deliver_all` and `take_all` are lent one, of whichever caller it is: what they tell is of a journal that begins with it. It has no
+//!   bytes by which they could tell how much that is, so what they tell isn't older than what anybody has seen
 //! - `Library::caller`, `Caller::number`, `missed`, `Opening::new`, `Answered::granted`: a caller has no places yet, and what
 //!   is refused is refused as Busy (that there are 1,024 then is a clause behind the lock, and a scene); its number;
 //!   the devices are those given; the receipt exactly where the step wasn't refused
@@ -66,9 +68,9 @@
 //! - `Ended::to_places`, `Ended::into_setup`: copies of the very places that the recorder has; the devices, as
 //!   `Core::into_setup` hands them back
 //!
-//! What `watch`, `watch_part`, `rested`, `stop_workers` and `end_workers` do, and what `has_lacked_memory` and `cuts` tell, has no contract: what a lock keeps is known by its type
-//! alone, so nothing can be said of it behind the call. Nor is it a clause that a call comes to wake at all, and that this unparks
-//! whom the call names: scenes show it.
+//! What `watch`, `watch_part`, `stop_workers` and `end_workers` do, and what `has_lacked_memory` and `cuts` tell, has no contract: what a lock
+//! keeps is known by its type alone, so nothing can be said of it behind the call. Nor is it a clause that a call comes to wake at all, and
+//! that this unparks whom the call names: scenes show it.
 //!
 //! A book under one lock (`Guarded`), called by many threads, each with a `Caller` of its own. Callbacks are handed out
 //! by `take`, and called by whoever took them, with no lock held. The comment at `Library` says what the lock is for,
