@@ -56,7 +56,8 @@
 //!   callback is told; `Refused` says why a call was refused, each with a sentence and libusb's number.
 //! - **The library**: `Opening`, then `Library::new` in a function that is generic in a `Naming`; a `Caller` for each thread;
 //!   `Journal` keeps every step, `Unrecorded` none.
-//! - **Callbacks**: `StoredCallback::once` and `StoredCallback::repeat`; a `Verdict` ends the transfer or submits it once more.
+//! - **Callbacks**: `StoredCallback::once` and `StoredCallback::repeat`; a `Verdict` ends the transfer or submits it once more. A
+//!   `Callback` of one's own is told a `Due`, which reads as a `Returned` and is moved into the call.
 //! - **The workers**: `controller_loop` and `event_loop`, with `Open` as their gate, go by rows of at most `BURST` steps; `Moments`
 //!   reads a clock for `Library::tick`. Who works without them calls `serve_all`, `deliver_all` and `take_all`, each of which tells
 //!   its places as a `Row`, the last with whether memory was refused to one behind them (`Outgoing`). What tells what there is to do
