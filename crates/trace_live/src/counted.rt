@@ -54,14 +54,16 @@ impl Counted {
 
 /// Only the worker that handles events calls callbacks, one behind the other; so what is left is read and written by one thread.
 impl Callback for Counted {
-    ghost use Rattle.std.specs.Prelude.{true, ⊤};
+    ghost use Rattle.std.specs.Prelude.{true, ◌≡◌, ◌⊎◌};
     ghost use Rattle.usb_model.specs.declared.verdict.Rule.TheVariants.{Free};
+    ghost use Rattle.usb_model.specs.declared.verdict.Verdict.TheVariants.{Stop};
+    ghost use Rattle.usb_model.specs.World.Plans.{verdict_of};
 
     ghost rule = { λ c. Free };
 
     ghost repeats = { λ c. true };
 
-    ghost may_answer = { λ c r v. ⊤ };
+    ghost may_answer = { λ c r v. (v ≡ verdict_of c.rule r.status r.round) ⊎ (v ≡ Stop) };
 
     fn call(self, due: Due) -> (Verdict, Option<Counted>) {
         let verdict = if self.may_go_on() {
