@@ -2,12 +2,11 @@
 use Rattle.std.specs.Prelude.{ℕ, ◌++◌, Bool, true, false, List, [], ◌∷◌, length, codes, Option, Some, None}
 use Rattle.std.specs.Fmt.{decimal}
 use Rattle.std.specs.List.{flat_map}
-use Rattle.hex.specs.Hex.{encode_lower}
 use Rattle.reference.specs.Moved.{packets_moved}
 use Rattle.usb_model.specs.declared.step.Step.{Step}
 use Rattle.usb_model.specs.declared.step.Step.TheVariants.{Serve}
 use Rattle.usb_model.specs.Setup.{Setup, is_in, packet_size_of}
-use Rattle.usb_model.specs.Text.{hex_byte}
+use Rattle.usb_model.specs.Text.{hex_byte, hex_text}
 use Rattle.usb_model.specs.World.{World, holder}
 
 -- which way an endpoint's packets go
@@ -15,15 +14,10 @@ abbrev pub way_text : Bool → List ℕ
 way_text true = codes " IN "
 way_text false = codes " OUT "
 
--- its bytes, or a dash where there are none
-abbrev pub data_text : List ℕ → List ℕ
-data_text [] = codes "-"
-data_text (x ∷ xs) = encode_lower (x ∷ xs)
-
--- the line of a packet at an endpoint: the endpoint, which way it went, how many bytes it has, and these
+-- the line of a packet at an endpoint: the endpoint, which way it went, how many bytes it has, and these, or a dash where there are none
 abbrev pub packet_line : ℕ → List ℕ → List ℕ
 packet_line ep bytes =
-    codes "    packet ep " ++ (hex_byte ep ++ (way_text (is_in ep) ++ (decimal (length bytes) ++ (codes " data " ++ (data_text bytes ++ codes "\n")))))
+    codes "    packet ep " ++ (hex_byte ep ++ (way_text (is_in ep) ++ (decimal (length bytes) ++ (codes " data " ++ (hex_text bytes ++ codes "\n")))))
 
 -- the packets that move at an endpoint where its device answers, if a handle holds it
 abbrev pub packets_at : Setup → World → ℕ → ℕ → Option ℕ → List (List ℕ)

@@ -15,7 +15,7 @@ use crate::telling::Telling;
 use crate::{Reason, reason};
 use reference::PlanRun;
 use std::alloc::{AllocError, Global};
-use trace_io::add_behind;
+use trace_io::{add_behind, add_line};
 use trace_scenario::NumberedLine;
 use usb_model::{Entry, Plan, Rule, Sequence, Setup, Step};
 
@@ -42,8 +42,7 @@ fn put_entry(
     ensures { IfOk result (λ _. text.new.items ≡ text.old.items ++ told_entry telling (numbered line.now) entry.now) }
 {
     if telling == Telling::Packets {
-        let alone = format!(in alloc; "{entry}\n")?;
-        return text.extend_from_slice(alone.as_bytes());
+        return add_line(alloc, text, entry);
     }
     add_behind(alloc, text, line.number, line.text, entry)
 }

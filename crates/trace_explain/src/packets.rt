@@ -1,46 +1,39 @@
 //! The packets that a step moves, as lines.
 
-ghost use Rattle.std.specs.Prelude.{◌≡◌, ◌++◌, IfOk, string_bytes};
+ghost use Rattle.std.specs.Prelude.{◌≡◌, ◌++◌, IfOk};
 ghost use Rattle.std.specs.List.{flat_map};
 ghost use Rattle.reference.specs.System.{world_of};
-ghost use Rattle.trace_explain.specs.Packets.{data_text, packet_line, packet_lines, packets_at, way_text};
+ghost use Rattle.trace_explain.specs.Packets.{packet_line, packet_lines, packets_at, way_text};
 ghost use Rattle.usb_model.specs.World.{holder};
 
 use reference::System;
 use reference::moved::packets_moved;
 use std::alloc::{AllocError, Global};
+use trace_io::{add_byte, add_data, add_decimal};
 use usb_model::{Bytes, DeviceNo, EpAddr, Setup, Step};
 
+/// For how many bytes of a line there is room from the beginning: for that of a packet of eight bytes.
+const LINE: usize = 64;
+
 /// Which way an endpoint's packets go.
-fn way(is_in: bool) -> &'static str
+fn way(is_in: bool) -> &'static [u8]
     ensures { result.now ≡ way_text is_in }
 {
-    if is_in { " IN " } else { " OUT " }
-}
-
-/// A packet's bytes, or a dash where there are none.
-fn data(alloc: Global, bytes: &[u8]) -> Result<String, AllocError>
-    ensures { IfOk result (λ text. string_bytes text ≡ data_text bytes.now) }
-{
-    if bytes.is_empty() {
-        return String::from_str(alloc, "-");
-    }
-    hex::encode(alloc, bytes)
+    if is_in { b" IN " } else { b" OUT " }
 }
 
 /// Puts the line of a packet behind a text.
-fn put_packet(
-    alloc: Global,
-    text: &mut Vec<u8>,
-    ep: EpAddr,
-    packet: &Bytes,
-) -> Result<(), AllocError>
+fn put_packet(text: &mut Vec<u8>, ep: EpAddr, packet: &Bytes) -> Result<(), AllocError>
     ensures { IfOk result (λ _. text.new.items ≡ text.old.items ++ packet_line ep packet.now) }
 {
     let bytes = packet.as_slice();
-    let (way, length, data) = (way(ep.is_in()), bytes.len(), data(alloc, bytes)?);
-    let line = format!(in alloc; "    packet ep {ep}{way}{length} data {data}\n")?;
-    text.extend_from_slice(line.as_bytes())
+    text.extend_from_slice(b"    packet ep ")?;
+    add_byte(text, ep.address())?;
+    text.extend_from_slice(way(ep.is_in()))?;
+    add_decimal(text, bytes.len() as u64)?;
+    add_data(text, bytes)?;
+    text.push(b'\n')?;
+    Ok(())
 }
 
 /// The packets that move at an endpoint where its device answers, if a handle holds it.
@@ -62,16 +55,11 @@ fn packets_at(
 }
 
 /// Puts the lines of some packets behind a text.
-fn put_packets(
-    alloc: Global,
-    text: &mut Vec<u8>,
-    ep: EpAddr,
-    packets: &[Bytes],
-) -> Result<(), AllocError>
+fn put_packets(text: &mut Vec<u8>, ep: EpAddr, packets: &[Bytes]) -> Result<(), AllocError>
     ensures { IfOk result (λ _. text.new.items ≡ text.old.items ++ flat_map (packet_line ep) packets.now) }
 {
     for packet in packets {
-        put_packet(alloc, text, ep, packet)?;
+        put_packet(text, ep, packet)?;
     }
     Ok(())
 }
@@ -85,10 +73,11 @@ pub(crate) fn packet_lines(
 ) -> Result<Vec<u8>, AllocError>
     ensures { IfOk result (λ lines. lines.items ≡ packet_lines setup.now (world_of setup.now system.now) step.now) }
 {
-    let mut lines = Vec::new(alloc);
-    if let Step::Serve { dev, ep } = step {
-        let packets = packets_at(alloc, setup, system, *dev, *ep)?;
-        put_packets(alloc, &mut lines, *ep, packets.as_slice())?;
-    }
+    let Step::Serve { dev, ep } = step else {
+        return Ok(Vec::new(alloc));
+    };
+    let packets = packets_at(alloc, setup, system, *dev, *ep)?;
+    let mut lines = Vec::with_capacity(alloc, LINE)?;
+    put_packets(&mut lines, *ep, packets.as_slice())?;
     Ok(lines)
 }

@@ -3,4 +3,3 @@ pub mod WordsRead
 pub mod Findings
 pub mod Beginnings
 pub mod Printed
-pub mod BehindLines

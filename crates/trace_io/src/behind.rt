@@ -3,6 +3,7 @@
 ghost use Rattle.std.specs.Prelude.{◌≡◌, ◌++◌, IfOk};
 ghost use Rattle.trace_io.specs.Output.{behind_line};
 
+use crate::entry_line::{add_decimal, add_line};
 use std::alloc::{AllocError, Global};
 use usb_model::Entry;
 
@@ -16,10 +17,9 @@ pub fn add_behind(
 ) -> Result<(), AllocError>
     ensures { IfOk result (λ _. text.new.items ≡ text.old.items ++ behind_line (number, line.now) entry.now) }
 {
-    let front = format!(in alloc; "{number} ")?;
-    text.extend_from_slice(front.as_bytes())?;
+    add_decimal(text, number)?;
+    text.push(b' ')?;
     text.extend_from_slice(line)?;
-    let back = format!(in alloc; " | {entry}\n")?;
-    text.extend_from_slice(back.as_bytes())?;
-    Ok(())
+    text.extend_from_slice(b" | ")?;
+    add_line(alloc, text, entry)
 }

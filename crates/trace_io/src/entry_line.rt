@@ -11,7 +11,7 @@ use std::alloc::{AllocError, Global};
 use usb_model::{Entry, Name, Reply, Returned, Status};
 
 /// Puts the line of an entry behind a text.
-pub(crate) fn add_line(alloc: Global, text: &mut Vec<u8>, entry: &Entry) -> Result<(), AllocError>
+pub fn add_line(alloc: Global, text: &mut Vec<u8>, entry: &Entry) -> Result<(), AllocError>
     ensures { IfOk result (λ _. text.new.items ≡ text.old.items ++ line_text entry.now) }
 {
     add_owner(text, entry.owner)?;
@@ -71,7 +71,7 @@ fn add_number(text: &mut Vec<u8>, word: &[u8], number: u64) -> Result<(), AllocE
 }
 
 /// Puts a decimal number behind a text. Most have one digit, which is pushed as it is.
-fn add_decimal(text: &mut Vec<u8>, number: u64) -> Result<(), AllocError>
+pub fn add_decimal(text: &mut Vec<u8>, number: u64) -> Result<(), AllocError>
     ensures { IfOk result (λ _. text.new.items ≡ text.old.items ++ decimal number) }
 {
     if number < 10 {
@@ -140,8 +140,8 @@ fn status_text(status: Status) -> &'static [u8]
     }
 }
 
-/// Puts the bytes of a transfer behind a text, or a dash where there are none.
-fn add_data(text: &mut Vec<u8>, bytes: &[u8]) -> Result<(), AllocError>
+/// Puts bytes behind a text and the word for them, as two hexadecimal digits each, or a dash where there are none.
+pub fn add_data(text: &mut Vec<u8>, bytes: &[u8]) -> Result<(), AllocError>
     ensures { IfOk result (λ _. text.new.items ≡ text.old.items ++ (codes " data " ++ hex_text bytes.now)) }
 {
     text.extend_from_slice(b" data ")?;
@@ -163,7 +163,7 @@ fn add_bytes(text: &mut Vec<u8>, bytes: &[u8]) -> Result<(), AllocError>
 }
 
 /// Puts a byte behind a text, as two hexadecimal digits.
-fn add_byte(text: &mut Vec<u8>, byte: u8) -> Result<(), AllocError>
+pub fn add_byte(text: &mut Vec<u8>, byte: u8) -> Result<(), AllocError>
     ensures { IfOk result (λ _. text.new.items ≡ text.old.items ++ hex_byte byte) }
 {
     text.push(digit(byte / 16))?;

@@ -37,6 +37,7 @@ mod words;
 mod write;
 
 pub use behind::add_behind;
+pub use entry_line::{add_byte, add_data, add_decimal, add_line};
 pub use fault::Fault;
 pub use lines::Lines;
 pub use read::read_whole;
