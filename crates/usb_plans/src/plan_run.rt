@@ -65,7 +65,7 @@ fn copied(returned: &Returned) -> Result<Returned, AllocError>
 
 /// What a step gave, with what is due to the callback that went out by it.
 #[derive(Drop)]
-struct Went<C> {
+struct MadeStep<C> {
     /// The entry of the step.
     entry: Entry,
     /// What went out.
@@ -75,11 +75,11 @@ struct Went<C> {
 }
 
 /// Makes a step. What goes out by it comes with what is due to its callback, of which the entry has a copy.
-fn went<C: Drop, D: Device>(
+fn make_step<C: Drop, D: Device>(
     core: &mut Core<C, D>,
     step: Step,
     callback: Option<C>,
-) -> Result<Went<C>, AllocError>
+) -> Result<MadeStep<C>, AllocError>
     requires submits { takes_payload step ≡ true → is_some callback ≡ true }
     ensures turned { IfOk result (λ x. TurnsWorld core.old step x.entry core.new) }
     ensures out { IfOk result (λ x. option_map (λ t. t.payload) x.taken ≡ handed_out core.old step) }
@@ -89,12 +89,12 @@ fn went<C: Drop, D: Device>(
     ensures goes_out { IfOk result (λ x. (kept : Kept C) → Carries kept core.old → GoesOut kept (option_map (λ t. t.payload) x.taken) x.entry.reply) }
 {
     match step {
-        Step::Take => took(core, callback),
+        Step::Take => take_step(core, callback),
         _ => {
             let Ok(Stepped { entry, back, .. }) = core.step(step, callback) else {
                 return Err(AllocError);
             };
-            Ok(Went {
+            Ok(MadeStep {
                 entry,
                 taken: None,
                 back,
@@ -104,7 +104,10 @@ fn went<C: Drop, D: Device>(
 }
 
 /// The oldest result goes out.
-fn took<C: Drop, D: Device>(core: &mut Core<C, D>, back: Option<C>) -> Result<Went<C>, AllocError>
+fn take_step<C: Drop, D: Device>(
+    core: &mut Core<C, D>,
+    back: Option<C>,
+) -> Result<MadeStep<C>, AllocError>
     ensures turned { IfOk result (λ x. TurnsWorld core.old Take x.entry core.new) }
     ensures out { IfOk result (λ x. option_map (λ t. t.payload) x.taken ≡ first_payload core.old) }
     ensures told { IfOk result (λ x. TellsOf x.entry.reply x.taken) }
@@ -114,17 +117,18 @@ fn took<C: Drop, D: Device>(core: &mut Core<C, D>, back: Option<C>) -> Result<We
 {
     match core.take() {
         Ok(Some(taken)) => {
+            let told = copied(&taken.returned)?;
             let entry = Entry {
-                owner: Some(taken.returned.h),
-                reply: Reply::Called(copied(&taken.returned)?),
+                owner: Some(told.h),
+                reply: Reply::Called(told),
             };
-            Ok(Went {
+            Ok(MadeStep {
                 entry,
                 taken: Some(taken),
                 back,
             })
         }
-        Ok(None) => Ok(Went {
+        Ok(None) => Ok(MadeStep {
             entry: Entry {
                 owner: None,
                 reply: Reply::Idle,
@@ -192,7 +196,7 @@ impl<C: Callback, D: Device> PlanRun<C, D> {
         ensures out { IfOk result (λ x. RunBehindStep x.entry.reply self.old self.new) }
         ensures back { IfOk result (λ x. x.back ≡ left_over (takes_payload step) x.entry.reply callback) }
     {
-        let Went { entry, taken, back } = went(&mut self.core, step, callback)?;
+        let MadeStep { entry, taken, back } = make_step(&mut self.core, step, callback)?;
         self.keep(&entry, taken)?;
         Ok(Performed {
             entry,

@@ -13,4 +13,4 @@ returns-clause-made g c = rw (← c.self.view_is)
 
 pub returns-clause-out : goal.returns-clause-out
 returns-clause-out g c = rw (← c.self.view_is)
-    (comes_out (record { core = c.self.inside.core; running = c.self.inside.running }) c.keep.new.self c.args.step (option_map (λ t. t.payload) c.in_ok-entry.field-0.taken) c.in_ok-entry.field-0.entry c.went.new.core c.in_ok-entry.ensures.turned c.in_ok-entry.ensures.out c.in_ok-entry.ensures.goes_out c.in_ok-keep.ensures.runs)
+    (comes_out (record { core = c.self.inside.core; running = c.self.inside.running }) c.keep.new.self c.args.step (option_map (λ t. t.payload) c.in_ok-entry.field-0.taken) c.in_ok-entry.field-0.entry c.make_step.new.core c.in_ok-entry.ensures.turned c.in_ok-entry.ensures.out c.in_ok-entry.ensures.goes_out c.in_ok-keep.ensures.runs)
