@@ -3,15 +3,15 @@
     python3 tools/interleavings [PART] [--bound N] [--seconds N] [--only SCENE] [--schedule S] [--sources FOLDER]
 
 A program's threads run one at a time. At each point, where one is about to touch what others touch, or waits, it is decided who goes on
-(schedule.c); and each run of the program makes other decisions, until all were made (search.c). The bound says how often in a run a thread
-has to wait though it could go on; who goes on where one waits or ends is tried without a bound. A run fails where no thread can go on, though
-not all ended; where it has more points than any that ends; where work is left while all wait; or where it prints what its scene doesn't
-allow. Its schedule is printed, which
-`--only` and `--schedule` run once more, point by point.
+(schedule.c); and each run of the program makes other decisions, until all were made (search.c). The bound says how often in a run a
+thread has to wait though it could go on; who goes on where one waits or ends is tried without a bound. A run fails where no thread can go
+on, though not all ended; where it has more points than any that ends; where work is left while all wait; or where it prints what its
+scene doesn't allow. Its schedule is printed, which `--only` and `--schedule` run once more, point by point.
 
-PART says which code: `c` is libusb's interface (scenes.c; points at locks, conditions and polled descriptors), `rattle` the library with its
-two workers, as `usbtrace live` runs the texts of scenes/ (points at each atomic step, each wait and each wake). Without one, both. Outcomes of a
-scene stand in outcomes/, one behind the other. `--sources` names another copy of the repository, whose code is tried instead.
+PART says which code: `c` is libusb's interface (scenes.c; points at locks, conditions and polled descriptors), `rattle` the library with
+its two workers, as `usbtrace live` runs the texts of scenes/ (points at each atomic step, each wait and each wake). Without one, both.
+Outcomes of a scene stand in outcomes/, one behind the other. `--sources` names another copy of the repository, whose code is tried
+instead.
 
 No time passes: a wait that only its time would end is a hang. No wait ends for no reason, and memory isn't refused."""
 import argparse

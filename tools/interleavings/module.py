@@ -1,5 +1,5 @@
-"""The unproved program usbtrace with a call before each atomic step on a word, so that tools/interleavings/schedule.c decides who goes on there;
-and with one where a function of the crates of TOLD begins, so that a schedule can be read.
+"""The unproved program usbtrace with a call before each atomic step on a word, so that tools/interleavings/schedule.c decides who goes on
+there; and with one where a function of the crates of TOLD begins, so that a schedule can be read.
 
 `rt try` leaves an LLVM module, whose text gets these calls and is compiled without optimization: the code is that of the crates, and each
 function stands by itself, so that one can be made to do nothing (planted.py)."""
@@ -87,10 +87,11 @@ def write_points(text: pathlib.Path, to: pathlib.Path, names: pathlib.Path) -> N
 def object_of(module: pathlib.Path, folder: pathlib.Path, kit: pathlib.Path) -> List[pathlib.Path]:
     """The object of a module with its points, and the file in C with their names, both made below a folder."""
     clang, text, pointed = kit / "toolchain" / "bin" / "clang", folder / "module.ll", folder / "points.ll"
-    subprocess.run([clang, TARGET, "-S", "-emit-llvm", "-x", "ir", module, "-o", text, "-O0", "-Xclang", "-disable-llvm-passes"], check=True)
+    subprocess.run([clang, TARGET, "-S", "-emit-llvm", "-x", "ir", module, "-o", text, "-O0", "-Xclang",
+                    "-disable-llvm-passes"], check=True)
     write_points(text, pointed, folder / "names.c")
     text.unlink()
     made = folder / "module.o"
-    subprocess.run([clang, TARGET, "-march=x86-64", "-O0", "-fPIC", "-ffunction-sections", "-fdata-sections", "-c", "-x", "ir", pointed, "-o",
-                    made], check=True)
+    subprocess.run([clang, TARGET, "-march=x86-64", "-O0", "-fPIC", "-ffunction-sections", "-fdata-sections", "-c", "-x", "ir", pointed,
+                    "-o", made], check=True)
     return [made, folder / "names.c"]

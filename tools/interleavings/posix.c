@@ -1,6 +1,6 @@
-/* The points of a program in C: locks, conditions, threads, and descriptors that are polled. The program's objects call these functions in
- * the place of the C library's (points_NAME for NAME). A lock that is let go of wakes all who wait for it; no wait ends for no reason, nor by its time; the clock stands
- * still. */
+/* The points of a program in C: locks, conditions, threads, and descriptors that are polled. The program's objects call these functions
+ * in the place of the C library's (points_NAME for NAME). A lock that is let go of wakes all who wait for it; no wait ends for no reason,
+ * nor by its time; the clock stands still. */
 #include "schedule.h"
 
 #include <errno.h>

@@ -1,6 +1,6 @@
-/* The points of a Rattle program: each atomic step on a word, before which a call stands in its module (module.py), and what the program asks
- * of the system: to wait at a word, to wake who waits there, and threads. All other memory belongs to one thread at a time, which the
- * compiler checks. A wait ends by a wake alone. */
+/* The points of a Rattle program: each atomic step on a word, before which a call stands in its module (module.py), and what the program
+ * asks of the system: to wait at a word, to wake who waits there, and threads. All other memory belongs to one thread at a time, which
+ * the compiler checks. A wait ends by a wake alone. */
 #include "schedule.h"
 
 #include <errno.h>
@@ -21,8 +21,8 @@ static const char *name_of(site_number site)
 
 __attribute__((constructor)) static void begin(void) { name_of_site = name_of; }
 
-/* What decides nothing about the loops: counts of references, what the kit's threads tell each other, a lock that is let go of, and a handle's own
- * channel, which no other thread touches any more. */
+/* What decides nothing about the loops: counts of references, what the kit's threads tell each other, a lock that is let go of, and a
+ * handle's own channel, which no other thread touches any more. */
 static bool is_passed_over(site_number site)
 {
     static const char *const names[] = { "std_alloc::arc::", "core::scope::", "core::thread::", "core::sync::offer", "core::sync::clear" };

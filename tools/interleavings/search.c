@@ -1,5 +1,5 @@
-/* All runs of a program, as far as the bound goes: one process for each, which makes the wanted decisions and behind them goes on with whoever
- * runs. The next run changes the last decision that has an option left (depth first). What a run prints is its outcome. */
+/* All runs of a program, as far as the bound goes: one process for each, which makes the wanted decisions and behind them goes on with
+ * whoever runs. The next run changes the last decision that has an option left (depth first). What a run prints is its outcome. */
 #include "schedule.h"
 
 #include <stdio.h>
