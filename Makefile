@@ -172,6 +172,12 @@ captures:
 
 include tools/install.mk
 
+# Short programs of threads, in every order that a bound allows: docs/CONTRIBUTING.md. INTERLEAVINGS has a part, c or rattle, and options.
+.PHONY: interleavings
+interleavings:
+	@$(MAKE) --no-print-directory CORE=try bin/libtirnouch_core.a
+	@python3 tools/interleavings $(INTERLEAVINGS)
+
 wrong_bodies:
 	tools/wrong_bodies.py try
 

@@ -6,7 +6,7 @@ address, undefined and thread sanitizers. Without a seed its lines are those of 
 go ahead by dice, it must end well. Each run is traced, and bin/usbtrace, where it is built, makes the same steps once more: every refusal,
 number and callback is compared, bytes too (tools/replay.py). Those without a seed are made without a trace too, since packets then go a
 quicker way: the lines must be the same. Then the example of docs/C.md is run as that page says; and where no NAME is given, the tools of
-TOOLS are run, and random calls are made (tools/fuzz_calls). `--quick` is gcc alone, with one seed."""
+TOOLS are run, random calls are made (tools/fuzz_calls), and threads run in every order (tools/interleavings). `--quick` is gcc alone, with one seed."""
 import os
 import pathlib
 import shutil
@@ -142,6 +142,12 @@ def fuzzed(programs):
     return f"tools/fuzz_calls: status {ran.returncode}\n{ran.stdout}{ran.stderr[-2000:]}" if ran.returncode else None
 
 
+def interleavings():
+    """Short programs of threads, in every order that a bound allows."""
+    ran = subprocess.run([sys.executable, ROOT / "tools" / "interleavings", "c"], capture_output=True, text=True)
+    return f"tools/interleavings: status {ran.returncode}\n{ran.stdout}{ran.stderr[-2000:]}" if ran.returncode else None
+
+
 def main(words):
     quick = "--quick" in words
     chosen = [it for it in words if it != "--quick"]
@@ -157,7 +163,7 @@ def main(words):
             faults = [it for it in pool.map(lambda it: run(*it), all_runs) if it]
         others = [example(), shared_library()]
         if not chosen:
-            others += [*map(tool, TOOLS), fuzzed([way.build_fuzzer() for way in ways])]
+            others += [*map(tool, TOOLS), interleavings(), fuzzed([way.build_fuzzer() for way in ways])]
     faults += [it for it in others if it]
     print("".join(f"{it}\n" for it in faults), end="")
     if not (ROOT / "bin" / "usbtrace").is_file():
