@@ -26,8 +26,8 @@ FIELDS = {**NUMBERS, "*mut u8": "uint8_t *"}
 
 
 class Source(NamedTuple):
-    """Where a crate has the numbers of a closed set: a file, the function of it (or the whole file), and what of that text has a `name` and its
-    `number`, which is 1 where none stands there."""
+    """Where a crate has the numbers of a closed set: a file, the function of it (or the whole file), and what of that text has a `name`
+    and its `number`, which is 1 where none stands there."""
 
     file: str
     function: str
@@ -58,10 +58,11 @@ extern "C" {
 """
 
 
-# Closed sets of numbers: the name of each, what it is, what stands before each member, where its numbers are, and C's word for those that the
-# crate calls otherwise; one that is None has no member.
+# Closed sets of numbers: the name of each, what it is, what stands before each member, where its numbers are, and C's word for those that
+# the crate calls otherwise; one that is None has no member.
 ENUMS = [
-    ("verb", "A step of tirnouch_call.", "", Source("tirnouch_c/src/calls.rt", "step_by", r"(?P<number>\d+) => (?:Step::)?(?P<name>\w+)"), {}),
+    ("verb", "A step of tirnouch_call.", "",
+     Source("tirnouch_c/src/calls.rt", "step_by", r"(?P<number>\d+) => (?:Step::)?(?P<name>\w+)"), {}),
     ("kind", "What came of a step: `kind` of `struct tirnouch_reply`.", "",
      Source("tirnouch_c/src/replies.rt", "of_reply", r"\bReply::(?P<name>\w+).*?of_kind\(handle, (?P<number>\d+)\)"), {}),
     ("code", "Completion codes (xHCI 1.2, 6.4.5): `code` of TIRNOUCH_ENDED.", "CODE_",
@@ -75,9 +76,11 @@ ENUMS = [
     ("need", "What a host has to hold: `kind` of `struct tirnouch_needed`.", "NEEDS_",
      Source("tirnouch_c/src/requests.rt", "of", r"Needs::(?P<name>\w+)[^{]*Needed \{\s*kind: (?P<number>\d+)"), {}),
     ("awaited", "What answers wait for: `awaited` of `struct tirnouch_gate`.", "AWAITS_",
-     Source("tirnouch_c/src/facts.rt", "of", r"Awaited::(?P<name>\w+)[^{]*AnswerGate \{[^}]*?awaited: (?P<number>\d+)"), {"At": "ENDPOINT"}),
+     Source("tirnouch_c/src/facts.rt", "of", r"Awaited::(?P<name>\w+)[^{]*AnswerGate \{[^}]*?awaited: (?P<number>\d+)"),
+     {"At": "ENDPOINT"}),
     ("any", "Fields of requests that may be any: bits of `any` of `struct tirnouch_gate`.", "ANY_",
-     Source("tirnouch_c/src/facts.rt", "any_fields", r"(?:(?P<number>\d+) \* )?u8::from\(pattern\.(?P<name>\w+)\.is_none\(\)\)"), {"kind": "TYPE"}),
+     Source("tirnouch_c/src/facts.rt", "any_fields", r"(?:(?P<number>\d+) \* )?u8::from\(pattern\.(?P<name>\w+)\.is_none\(\)\)"),
+     {"kind": "TYPE"}),
 ]
 # The structs that C has answers in: each of the crate's, and its name behind `tirnouch_`.
 ANSWERS = {
@@ -184,8 +187,8 @@ def enumeration(name, docs, beginning, source, words):
 
 
 def declared(kind):
-    """A struct of the crate: the module that has it, its documentation, and its fields in their order, each with its documentation. C has its
-    fields too, so it is laid out as C does, and no field is private but where that is said."""
+    """A struct of the crate: the module that has it, its documentation, and its fields in their order, each with its documentation. C has
+    its fields too, so it is laid out as C does."""
     for file in sorted(CRATE.glob("*.rt")):
         text = file.read_text()
         for docs, _ in documented(text, rf"pub struct {kind} \{{"):
@@ -261,7 +264,8 @@ def first_difference(made):
     if not HEADER.is_file():
         return "it isn't there"
     pairs = itertools.zip_longest(HEADER.read_text().splitlines(), made.splitlines(), fillvalue="nothing")
-    return next((f"line {at} has {one.strip()!r}, and they {other.strip()!r}" for at, (one, other) in enumerate(pairs, 1) if one != other), "its end")
+    different = ((at, one.strip(), other.strip()) for at, (one, other) in enumerate(pairs, 1) if one != other)
+    return next((f"line {at} has {one!r}, and they {other!r}" for at, one, other in different), "its end")
 
 
 def main():
