@@ -4,10 +4,10 @@
 Each program of c/tests/usb that has an .expected file is built and run: by gcc and, where it is there, clang; and with c/usb under the
 address, undefined and thread sanitizers. Without a seed its lines are those of the file. With TIRNOUCH_SEED, where devices and controller
 go ahead by dice, it must end well. Each run is traced, and bin/usbtrace, where it is built, makes the same steps once more: every refusal,
-number and callback is compared, bytes too (tools/replay.py). A run that leaves no trace, or fewer submissions in its traces than the program
-made (c/tests/usb/submissions.c), fails. Runs without a seed are made without a trace too, since packets then go a
-quicker way: the lines must be the same. Then the example of docs/C.md is run as that page says; and where no NAME is given, the tools of
-TOOLS are run, and random calls are made (tools/fuzz_calls). `--quick` is gcc alone, with one seed."""
+number and callback is compared, bytes too (tools/replay.py). A run that leaves no trace, or fewer submissions in its traces than the
+program made (c/tests/usb/submissions.c), fails. Runs without a seed are made without a trace too, since packets then go a quicker way: the
+lines must be the same. Then the example of docs/C.md is run as that page says; and where no NAME is given, the tools of TOOLS are run, and
+random calls are made (tools/fuzz_calls). `--quick` is gcc alone, with one seed."""
 import os
 import pathlib
 import shutil
@@ -33,9 +33,10 @@ LEFT_OUT = {"thread": {"fork", "memory", "scarce"}}
 UNSEEDED = ("memory", "scarce", "races", "endless")
 SECONDS = 240
 # What is tried besides: runs that hang, crash or fail with some seeds; recordings; runs against those, and against traces; what a trace has
-# where a run ends; what long work says; devices and examples in Python; what is to be tried for a change; and writes that are changed.
+# where a run ends; what long work says; devices and examples in Python; what is to be tried for a change; writes that are changed; and
+# wrong bodies: whether they fit, and whose turn it is.
 TOOLS = ["tirnouch_run_test.py", "tirnouch_record_test.py", "capture_run_test.py", "trace_run_test.py", "traces_test.py",
-         "progress_test.py", "device_test.py", "python_test.py", "changed_test.py", "changed_writes_test.py"]
+         "progress_test.py", "device_test.py", "python_test.py", "changed_test.py", "changed_writes_test.py", "wrong_bodies_test.py"]
 # How many seeds each program is tried with, and how many dice the program that has its own.
 SEEDS, DICE = {"plain": 6, "sanitized": 2}, {"plain": 12, "sanitized": 3}
 
