@@ -23,6 +23,7 @@ from typing import List
 
 import edits
 import kit
+import prover
 import wrong_turn
 from wrong_goals import Kept, goal_of
 
@@ -115,11 +116,21 @@ def take_turn(is_dry: bool, keeps: bool) -> int:
     if is_dry:
         print("".join(f"{wrong_turn.name_of(it)}\n" for it in chosen), end="")
         return 0
-    report = Report(keeps)
+    try:
+        for crate in sorted({it.parent.name for it in chosen}):
+            prover.check_words(crate)
+    except prover.NotBuilt as why:
+        print(f"none is tried: {why}")
+        return 1
+    return told_turn(chosen, Report(keeps))
+
+
+def told_turn(chosen: List[pathlib.Path], report: Report) -> int:
+    """Tries these, and tells what came of them: the status. One of none that was refused shows nothing, so it fails."""
     wrong_turn.try_turn(chosen, report.tell)
     status = report.end()
     print(f"{report.counts['refused']} of them refused, {report.counts['unknown']} not tried, {report.wrong} wrong")
-    return status
+    return status if report.counts["refused"] else 1
 
 
 def try_all(crates: List[str], keeps: bool) -> int:

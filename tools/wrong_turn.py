@@ -130,11 +130,9 @@ def tried(edit: pathlib.Path, purse: Purse) -> Tried:
     crate, seconds = edits.CRATES / edit.parent.name, 0.0
     try:
         texts = edits.applied(edit, crate)
-        words = prover.check_words(crate.name)
     except edits.Misfit as why:
         return Tried(BAD, None, str(why), 0.0)
-    except prover.NotBuilt as why:
-        return Tried(UNKNOWN, None, str(why), 0.0)
+    words = prover.check_words(crate.name)
     with tempfile.TemporaryDirectory(prefix="wrong-body-") as room:
         folder = pathlib.Path(room)
         for part in edits.PARTS:
