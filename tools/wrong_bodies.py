@@ -151,7 +151,8 @@ def try_all(crates: List[str], keeps: bool) -> int:
             read_try(line, report)
             if line.startswith(("must-fail ", "rt: ")) or "passed, " in line:
                 print(line, end="", flush=True)
-        return ran.wait() or report.end()
+        ended = report.end()
+        return ran.wait() or ended
 
 
 def read_try(line: str, report: Report) -> None:
