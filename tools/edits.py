@@ -71,9 +71,9 @@ def misfit(edit: pathlib.Path, crate: pathlib.Path) -> Optional[str]:
     return None
 
 
-def in_gate(crates: pathlib.Path = CRATES) -> Tuple[List[pathlib.Path], List[pathlib.Path]]:
+def in_gate() -> Tuple[List[pathlib.Path], List[pathlib.Path]]:
     """The edits that the gate tries, and what stands among them and is none: `rt` passes over it."""
-    found = sorted(it for it in crates.glob("*/must-fail/**/*") if it.is_file() and it.suffix != ".md")
+    found = sorted(it for it in CRATES.glob("*/must-fail/**/*") if it.is_file() and it.suffix != ".md")
     good = [it for it in found if it.parent.name == "must-fail" and NAMED.fullmatch(it.name)]
     return good, [it for it in found if it not in good]
 

@@ -60,14 +60,12 @@ class Fits(Crates):
 
     def told(self) -> Tuple[int, str]:
         out = io.StringIO()
-        before, edits.in_gate.__defaults__ = edits.in_gate.__defaults__, (edits.CRATES,)
         places = wrong_bodies.ROOT, wrong_bodies.PLANTS
         wrong_bodies.ROOT, wrong_bodies.PLANTS = self.root, self.root / "tools" / "plants"
         try:
             with contextlib.redirect_stdout(out):
                 status = wrong_bodies.fit()
         finally:
-            edits.in_gate.__defaults__ = before
             wrong_bodies.ROOT, wrong_bodies.PLANTS = places
         return status, out.getvalue()
 
