@@ -1,6 +1,6 @@
 # `make run` builds the program unproved, and shows the README's example; `make build` proves it; `make test` is the gate.
 # `make fmt` lays all files out, which the gate asks for; `make bench` prints nanoseconds, `make bench_threads` those of
-# threads; `make wrong_bodies` tries those that the gate leaves out; `make plant` makes definitions wrong, and says what
+# threads; `make wrong_bodies` tries all those of which the gate tries a few; `make plant` makes definitions wrong, and says what
 # refuses that. `make doc` writes doc/index.html, the public items of all crates with their contracts. `make c` builds the core
 # for C, proved, and tries it: bin/libtirnouch_core.a and .so, with c/include/tirnouch_core.h; `make bench_c` measures it. `make c-usb`
 # builds libusb's own interface over it, bin/libusb-1.0.so.0 and .a; `make c-try` the same unproved, in two minutes; `make c-test` tries it, and `make c-abi` compares the header with libusb's.
@@ -31,6 +31,7 @@ test:
 	tools/times.py check
 	@RT_JOBS=$$(nproc) tools/progress.py proofs test -- rt ci
 	@tools/program.py keep
+	@tools/wrong_bodies.py turn
 	@tools/pictures.py check
 	@tools/scenarios.py check
 	@python3 tools/hostile gate

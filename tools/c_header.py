@@ -1,24 +1,42 @@
 #!/usr/bin/env python3
-"""c/include/tirnouch_core.h, made from the exports of crates/tirnouch_c.
+"""c/include/tirnouch_core.h, made from the sources of crates/tirnouch_c.
 
     tools/c_header.py write    writes the header anew
     tools/c_header.py check    says whether it is current; the gate asks it
 
 Each export stands there with its documentation. An allocator is a value without bytes, which C doesn't pass; a slice is a pointer and
-a length."""
+a length. The structs have the fields of the crate's, in their order, with their types. The numbers of an enum are those that the crate's
+functions have, whose contracts say them."""
+import itertools
 import pathlib
 import re
 import sys
 import textwrap
+from typing import Dict, NamedTuple, Optional
 
 ROOT = pathlib.Path(__file__).resolve().parent.parent
-CRATE = ROOT / "crates" / "tirnouch_c" / "src"
+CRATES = ROOT / "crates"
+CRATE = CRATES / "tirnouch_c" / "src"
 # The files that have the exports, in the order of the header.
 EXPORTS = ("exports.rt", "questions.rt")
 HEADER = ROOT / "c" / "include" / "tirnouch_core.h"
 WIDTH = 112
 NUMBERS = {"u8": "uint8_t", "u16": "uint16_t", "u32": "uint32_t", "u64": "uint64_t", "i32": "int32_t", "usize": "size_t", "bool": "bool"}
 FIELDS = {**NUMBERS, "*mut u8": "uint8_t *"}
+
+
+class Source(NamedTuple):
+    """Where a crate has the numbers of a closed set: a file, the function of it (or the whole file), and what of that text has a `name`
+    and its `number`, which is 1 where none stands there."""
+
+    file: str
+    function: str
+    pattern: str
+
+
+# The answer of a slot without a session, and the number of nobody.
+NO_SESSION = Source("tirnouch_c/src/exports.rt", "", r"pub const (?P<name>NO_SESSION): i32 = (?P<number>-\d+);")
+NOBODY = Source("tirnouch_c/src/replies.rt", "nothing", r"(?P<name>of_kind)\((?P<number>\d+), ")
 HEAD = """/* Tirnouch's core, as the static library tirnouch_c has it: every step is proved, and so is what each function answers
  * (crates/tirnouch_c). Made by tools/c_header.py.
  *
@@ -36,33 +54,33 @@ HEAD = """/* Tirnouch's core, as the static library tirnouch_c has it: every ste
 extern "C" {
 #endif
 
-#define TIRNOUCH_NO_SESSION (-99)
+#define TIRNOUCH_NO_SESSION (NUMBER)
 """
-# Closed sets of numbers: the name of each, what it is, and its members.
+
+
+# Closed sets of numbers: the name of each, what it is, what stands before each member, where its numbers are, and C's word for those that
+# the crate calls otherwise; one that is None has no member.
 ENUMS = [
-    ("verb", "A step of tirnouch_call.", {
-        "OPEN": 0, "CLOSE": 1, "CLAIM": 2, "RELEASE": 3, "RESET": 4, "CLEAR_HALT": 5, "CANCEL": 6, "EXPIRE": 7, "UNPLUG": 11,
-    }),
-    ("kind", "What came of a step: `kind` of `struct tirnouch_reply`.", {
-        "DONE": 0, "NUMBER": 1, "REFUSED": 2, "IDLE": 3, "NAK": 4, "MOVED": 5, "ENDED": 6, "RAN": 7, "FINISHED": 8, "PAUSED": 9,
-        "SETTLED": 10, "CALLED": 11,
-    }),
-    ("code", "Completion codes (xHCI 1.2, 6.4.5): `code` of TIRNOUCH_ENDED.", {
-        "CODE_SUCCESS": 1, "CODE_BABBLE": 3, "CODE_TRANSACTION_ERROR": 4, "CODE_STALL": 6, "CODE_SHORT_PACKET": 13,
-    }),
-    ("waiting", "What waits, whoever it is of: bits of `waiting` of `struct tirnouch_next` and `struct tirnouch_view`.", {
-        "WAITS_ORDER": 1, "WAITS_EVENT": 2, "WAITS_RESULT": 4,
-    }),
-    ("answer", "An answer of a device: `kind` of tirnouch_feed.", {
-        "ANSWER_PACKET": 0, "ANSWER_TAKEN": 1, "ANSWER_NOT_READY": 2, "ANSWER_STALL": 3, "ANSWER_BROKEN": 4,
-    }),
-    ("need", "What a host has to hold: `kind` of `struct tirnouch_needed`.", {
-        "NEEDS_NOTHING": 0, "NEEDS_INTERFACE": 1, "NEEDS_ENDPOINT": 2,
-    }),
-    ("awaited", "What answers wait for: `awaited` of `struct tirnouch_gate`.", {"AWAITS_ENDPOINT": 0, "AWAITS_REQUESTS": 1}),
-    ("any", "Fields of requests that may be any: bits of `any` of `struct tirnouch_gate`.", {
-        "ANY_TYPE": 1, "ANY_REQUEST": 2, "ANY_VALUE": 4, "ANY_INDEX": 8,
-    }),
+    ("verb", "A step of tirnouch_call.", "",
+     Source("tirnouch_c/src/calls.rt", "step_by", r"(?P<number>\d+) => (?:Step::)?(?P<name>\w+)"), {}),
+    ("kind", "What came of a step: `kind` of `struct tirnouch_reply`.", "",
+     Source("tirnouch_c/src/replies.rt", "of_reply", r"\bReply::(?P<name>\w+).*?of_kind\(handle, (?P<number>\d+)\)"), {}),
+    ("code", "Completion codes (xHCI 1.2, 6.4.5): `code` of TIRNOUCH_ENDED.", "CODE_",
+     Source("usb_model/src/completion.rt", "", r"pub const (?P<name>\w+): u8 = (?P<number>\d+);"),
+     {"BABBLE_DETECTED": "BABBLE", "STALL_ERROR": "STALL", "STOPPED": None}),
+    ("waiting", "What waits, whoever it is of: bits of `waiting` of `struct tirnouch_next` and `struct tirnouch_view`.", "WAITS_",
+     Source("tirnouch_c/src/reads.rt", "waiting", r"(?:(?P<number>\d+) \* )?u8::from\((?P<name>\w+)\)"), {"outcome": "RESULT"}),
+    ("answer", "An answer of a device: `kind` of tirnouch_feed.", "ANSWER_",
+     Source("tirnouch_c/src/feeds.rt", "answer_by", r"(?P<number>\d+) => Ok\(Some\(Response::(?P<name>\w+)"),
+     {"Data": "PACKET", "Ack": "TAKEN", "Nak": "NOT_READY"}),
+    ("need", "What a host has to hold: `kind` of `struct tirnouch_needed`.", "NEEDS_",
+     Source("tirnouch_c/src/requests.rt", "of", r"Needs::(?P<name>\w+)[^{]*Needed \{\s*kind: (?P<number>\d+)"), {}),
+    ("awaited", "What answers wait for: `awaited` of `struct tirnouch_gate`.", "AWAITS_",
+     Source("tirnouch_c/src/facts.rt", "of", r"Awaited::(?P<name>\w+)[^{]*AnswerGate \{[^}]*?awaited: (?P<number>\d+)"),
+     {"At": "ENDPOINT"}),
+    ("any", "Fields of requests that may be any: bits of `any` of `struct tirnouch_gate`.", "ANY_",
+     Source("tirnouch_c/src/facts.rt", "any_fields", r"(?:(?P<number>\d+) \* )?u8::from\(pattern\.(?P<name>\w+)\.is_none\(\)\)"),
+     {"kind": "TYPE"}),
 ]
 # The structs that C has answers in: each of the crate's, and its name behind `tirnouch_`.
 ANSWERS = {
@@ -70,16 +88,14 @@ ANSWERS = {
     "PacketOffer": "offer", "ControlResponse": "response", "Needed": "needed", "DeviceFacts": "device", "AnswerGate": "gate",
     "DeviceDeparture": "departure", "EndpointNumbers": "endpoint",
 }
-NOBODY = """
+NONE = """
 /* In place of a handle or a device: it is nobody's, or there is none. */
-#define TIRNOUCH_NOBODY 255
+#define TIRNOUCH_NOBODY NUMBER
 """
 SLOT = """
 /* What holds a session. Its fields are the library's. */
 struct tirnouch_slot {
-    void *at;
-    bool there;
-};
+FIELDS};
 """
 # Who owns lent memory, behind what the crate says of it: each item is a paragraph.
 OWNERS = [
@@ -127,9 +143,43 @@ def documented(text, pattern):
             docs = []
 
 
-def enumeration(name, docs, members):
+def function_of(text: str, name: str) -> str:
+    """The text of the functions of this name, from their heads to the braces that close them; the whole text where there is no name."""
+    if not name:
+        return text
+    heads = re.finditer(rf"^( *)(?:pub )?fn {name}\(.*?^\1\}}$", text, re.MULTILINE | re.DOTALL)
+    return "\n".join(it[0] for it in heads)
+
+
+def numbers_of(source: Source) -> Dict[str, int]:
+    """The names and numbers that a crate's source has, in its order."""
+    text = function_of((CRATES / source.file).read_text(), source.function)
+    found = {it["name"]: int(it["number"] or 1) for it in re.finditer(source.pattern, text, re.DOTALL)}
+    if not found:
+        sys.exit(f"crates/{source.file} has none of the numbers that tools/c_header.py looks for in it")
+    return found
+
+
+def the_number(source: Source) -> str:
+    return str(*numbers_of(source).values())
+
+
+def spelled(name: str) -> str:
+    """A name of the crate as C's constants are spelled."""
+    return name if name.isupper() else re.sub(r"(?<=[a-z])(?=[A-Z])", "_", name).upper()
+
+
+def members(beginning: str, source: Source, words: Dict[str, Optional[str]]) -> Dict[str, int]:
+    """The members of a closed set, by the crate's source."""
+    found = {words.get(name, spelled(name)): number for name, number in numbers_of(source).items()}
+    if len(set(found.values())) < len(found):
+        sys.exit(f"crates/{source.file} has a number twice: {found}")
+    return {f"{beginning}{name}": number for name, number in found.items() if name}
+
+
+def enumeration(name, docs, beginning, source, words):
     """A closed set of numbers as C has it."""
-    words = [f"TIRNOUCH_{it}\0=\0{number}" for it, number in members.items()]
+    words = [f"TIRNOUCH_{it}\0=\0{number}" for it, number in members(beginning, source, words).items()]
     line = f"enum tirnouch_{name} {{ " + ", ".join(words) + " };"
     if len(line) > WIDTH:
         line = f"enum tirnouch_{name} {{\n" + textwrap.fill(", ".join(words), WIDTH, initial_indent="    ", subsequent_indent="    ") + "\n};"
@@ -137,13 +187,26 @@ def enumeration(name, docs, members):
 
 
 def declared(kind):
-    """A struct of the crate: the module that has it, its documentation, and its fields in their order, each with its documentation."""
+    """A struct of the crate: the module that has it, its documentation, and its fields in their order, each with its documentation. C has
+    its fields too, so it is laid out as C does."""
     for file in sorted(CRATE.glob("*.rt")):
         text = file.read_text()
         for docs, _ in documented(text, rf"pub struct {kind} \{{"):
+            if not re.search(rf"#\[repr\(C\)\]\n(?:#\[.*\]\n)*pub struct {kind} \{{", text):
+                sys.exit(f"crates/tirnouch_c/src/{file.name}: {kind} isn't laid out as C does: it lacks #[repr(C)]")
             body = re.search(rf"pub struct {kind} \{{\n(.*?)\n\}}", text, re.S).group(1)
-            return file.stem, docs, [(lines, field[1], field[2]) for lines, field in documented(body, r"pub (\w+): ([^,{]+),")]
+            fields = documented(body, r"(?!pub ghost |ghost )(?:pub )?(\w+): ([^,{]+),")
+            return file.stem, docs, [(lines, field[1], field[2]) for lines, field in fields]
     sys.exit(f"tirnouch_c has no struct {kind}")
+
+
+def flat(kind):
+    """The fields of a struct as C has them, of which one may be a struct itself."""
+    for _, field, number in declared(kind)[2]:
+        if number in FIELDS:
+            yield f"    {FIELDS[number].replace('uint8_t *', 'void *')}{'' if number.startswith('*') else ' '}{field};\n"
+        else:
+            yield from flat(number)
 
 
 def structure(name, kind, more=()):
@@ -189,10 +252,20 @@ def exports():
 
 
 def header():
-    enums = "".join(enumeration(*it) for it in ENUMS)
+    head = HEAD.replace("NUMBER", the_number(NO_SESSION)) + "".join(enumeration(*it) for it in ENUMS)
+    slot = NONE.replace("NUMBER", the_number(NOBODY)) + SLOT.replace("FIELDS", "".join(flat("Slot")))
     answers = "".join(structure(f"tirnouch_{word}", kind) for kind, word in ANSWERS.items())
     memory = structure("tirnouch_memory", "LentMemory", OWNERS)
-    return HEAD + enums + NOBODY + SLOT + memory + answers + exports() + TAIL
+    return head + slot + memory + answers + exports() + TAIL
+
+
+def first_difference(made):
+    """Where the header that stands there differs from what the sources make, for a person."""
+    if not HEADER.is_file():
+        return "it isn't there"
+    pairs = itertools.zip_longest(HEADER.read_text().splitlines(), made.splitlines(), fillvalue="nothing")
+    different = ((at, one.strip(), other.strip()) for at, (one, other) in enumerate(pairs, 1) if one != other)
+    return next((f"line {at} has {one!r}, and they {other!r}" for at, one, other in different), "its end")
 
 
 def main():
@@ -202,8 +275,8 @@ def main():
         HEADER.write_text(made)
     elif sys.argv[1:] == ["check"]:
         if not HEADER.is_file() or HEADER.read_text() != made:
-            sys.exit("c/include/tirnouch_core.h isn't that of the exports: run tools/c_header.py write")
-        print("c/include/tirnouch_core.h has the exports of tirnouch_c")
+            sys.exit(f"c/include/tirnouch_core.h isn't that of the crate's sources: {first_difference(made)}: run tools/c_header.py write")
+        print("c/include/tirnouch_core.h has the exports, structs and numbers of tirnouch_c")
     else:
         sys.exit(__doc__)
 

@@ -4,9 +4,10 @@
 Each program of c/tests/usb that has an .expected file is built and run: by gcc and, where it is there, clang; and with c/usb under the
 address, undefined and thread sanitizers. Without a seed its lines are those of the file. With TIRNOUCH_SEED, where devices and controller
 go ahead by dice, it must end well. Each run is traced, and bin/usbtrace, where it is built, makes the same steps once more: every refusal,
-number and callback is compared, bytes too (tools/replay.py). Those without a seed are made without a trace too, since packets then go a
-quicker way: the lines must be the same. Then the example of docs/C.md is run as that page says; and where no NAME is given, the tools of
-TOOLS are run, random calls are made (tools/fuzz_calls), and threads run in every order (tools/interleavings). `--quick` is gcc alone, with one seed."""
+number and callback is compared, bytes too (tools/replay.py). A run that leaves no trace, or fewer submissions in its traces than the
+program made (c/tests/usb/submissions.c), fails. Runs without a seed are made without a trace too, since packets then go a quicker way: the
+lines must be the same. Then the example of docs/C.md is run as that page says; and where no NAME is given, the tools of TOOLS are run,
+random calls are made (tools/fuzz_calls), and threads run in every order (tools/interleavings). `--quick` is gcc alone, with one seed."""
 import os
 import pathlib
 import shutil
@@ -20,6 +21,11 @@ TESTS = ROOT / "c" / "tests" / "usb"
 FUZZER = ROOT / "tools" / "fuzz"
 FLAGS = "-std=c11 -g -Wall -Wextra -pedantic -D_GNU_SOURCE".split() + ["-I", str(ROOT / "c" / "include")]
 WRAPPED = ["-Wl,--wrap=malloc,--wrap=calloc,--wrap=realloc"]
+# What is counted of a scene (submissions.c).
+COUNTED = [f"-Wl,--wrap={it}" for it in ("libusb_submit_transfer", "libusb_cancel_transfer", "libusb_bulk_transfer",
+                                         "libusb_interrupt_transfer", "tirnouch_begin", "tirnouch_end")]
+# Programs all of whose buses have no trace by the environment.
+UNTRACED = ("kept", "scarce", "within")
 MORE = {"memory": WRAPPED, "scarce": WRAPPED}
 # A process that forks isn't looked at by the thread sanitizer; nor are allocations that are refused its own.
 LEFT_OUT = {"thread": {"fork", "memory", "scarce"}}
@@ -27,9 +33,10 @@ LEFT_OUT = {"thread": {"fork", "memory", "scarce"}}
 UNSEEDED = ("memory", "scarce", "races", "endless")
 SECONDS = 240
 # What is tried besides: runs that hang, crash or fail with some seeds; recordings; runs against those, and against traces; what a trace has
-# where a run ends; what long work says; devices and examples in Python; what is to be tried for a change; and writes that are changed.
+# where a run ends; what long work says; devices and examples in Python; what is to be tried for a change; writes that are changed; and
+# wrong bodies: whether they fit, and whose turn it is.
 TOOLS = ["tirnouch_run_test.py", "tirnouch_record_test.py", "capture_run_test.py", "trace_run_test.py", "traces_test.py",
-         "progress_test.py", "device_test.py", "python_test.py", "changed_test.py", "changed_writes_test.py"]
+         "progress_test.py", "device_test.py", "python_test.py", "changed_test.py", "changed_writes_test.py", "wrong_bodies_test.py"]
 # How many seeds each program is tried with, and how many dice the program that has its own.
 SEEDS, DICE = {"plain": 6, "sanitized": 2}, {"plain": 12, "sanitized": 3}
 
@@ -54,8 +61,8 @@ class Way:
 
     def build(self, name):
         built = self.folder / name
-        sources = [TESTS / f"{name}.c", TESTS / "scene.c"]
-        subprocess.run([*self.words, *MORE.get(name, []), *sources, *self.library, "-pthread", "-o", built], check=True)
+        sources = [TESTS / f"{name}.c", TESTS / "scene.c", TESTS / "submissions.c"]
+        subprocess.run([*self.words, *COUNTED, *MORE.get(name, []), *sources, *self.library, "-pthread", "-o", built], check=True)
         return built
 
     def build_fuzzer(self):
@@ -77,10 +84,23 @@ def replay(traces):
     return "" if ran.returncode == 0 else "\n".join(told)[:2000] + ran.stderr[-2000:]
 
 
+def untold(name, counted, traces):
+    """What a run's traces lack of the transfers that it submitted, if something."""
+    if not traces:
+        return None if name in UNTRACED else "it left no trace"
+    signs = counted.read_text() if counted.is_file() else ""
+    least = signs.count("+") - signs.count("-")
+    told = sum(line.startswith("submit ") for it in traces for line in it.read_text(errors="replace").splitlines())
+    return f"its traces have {told} submissions, and it made {least} at least" if told < least else None
+
+
 def run(program, name, words, seed, label, is_traced=True):
     """Runs a program once: what is wrong with that, if something is."""
     with tempfile.TemporaryDirectory() as folder:
-        env = {**os.environ, **({"TIRNOUCH_TRACE": str(pathlib.Path(folder) / "trace")} if is_traced else {})}
+        counted, at = pathlib.Path(folder) / "submissions", pathlib.Path(folder) / "traces"
+        at.mkdir()
+        traced = {"TIRNOUCH_TRACE": str(at / "trace"), "SCENE_SUBMISSIONS": str(counted)}
+        env = {**os.environ, **(traced if is_traced else {})}
         if seed:
             env["TIRNOUCH_SEED"] = str(seed)
         try:
@@ -93,7 +113,8 @@ def run(program, name, words, seed, label, is_traced=True):
         if not seed and ran.stdout != expected:
             pairs = zip([*ran.stdout.splitlines(), "(end)"], [*expected.splitlines(), "(end)"])
             return f"{label}: " + next(f"expected {b!r}, got {a!r}" for a, b in pairs if a != b)
-        told = replay(sorted(str(it) for it in pathlib.Path(folder).iterdir()))
+        traces = sorted(at.iterdir())
+        told = (untold(name, counted, traces) if is_traced else None) or replay(traces)
         return f"{label}: {told}" if told else None
 
 

@@ -8,13 +8,13 @@ each part of a proof; other work on the machine adds to them. Behind them stands
 import collections
 import pathlib
 import re
-import shutil
 import subprocess
 import sys
 import tempfile
 from typing import Dict, List, Tuple
 
 import crate_graph
+import prover
 
 ROOT = pathlib.Path(__file__).resolve().parent.parent
 CRATES = ROOT / "crates"
@@ -24,33 +24,6 @@ COUNT = 20
 PART = re.compile(r"(\.[A-Z]\w*)+$")
 
 Part = Tuple[float, str]
-
-
-def library(name: str) -> pathlib.Path:
-    return CRATES / name / "out" / "rlib" / f"{name}.rlib"
-
-
-def words_for(name: str, kept: pathlib.Path) -> List[str]:
-    """The prover's command for a crate over libraries that are built. It keeps its work in a folder."""
-    found = shutil.which("rt")
-    if not found:
-        raise SystemExit("dear: there is no rt in your PATH")
-    kit = pathlib.Path(found).resolve().parent.parent
-    known, used = crate_graph.lines(), crate_graph.named(name)
-    below = [it for it in crate_graph.below(name) if it != name]
-    lacking = [it for it in below if not library(it).is_dir()]
-    if lacking:
-        raise SystemExit(f"dear: {lacking[0]} isn't built: run make test, or rt lib in crates/{lacking[0]}")
-    root = "src/lib.rt" if (CRATES / name / "src" / "lib.rt").is_file() else "src/main.rt"
-    words = [f"{kit}/bin/rattle", "check", "--crate-name", name, root]
-    for it in ["std", *(it for it in used if it not in known)]:
-        words += ["--extern", f"{it}={kit}/rlibs/{it}.rlib"]
-    for it in used:
-        words += ["--extern", f"{it}={library(it)}"] if it in known else []
-    for folder in [kit / "rlibs", *(library(it).parent for it in below)]:
-        words += ["-L", f"dependency={folder}"]
-    words += ["--antt-project", f"{kit}/rattle/logic/antt-project.json", "--logic-built", f"{kit}/logic_built"]
-    return [*words, "--links", f"{name}=", "--jobs", "1", "--incremental", str(kept)]
 
 
 def written(kept: pathlib.Path) -> List[Part]:
@@ -78,9 +51,14 @@ def main(words: List[str]) -> int:
         print(__doc__, file=sys.stderr)
         return 2
     name, count = words[0], int(words[1]) if len(words) > 1 else COUNT
+    try:
+        command = prover.check_words(name)
+    except prover.NotBuilt as why:
+        raise SystemExit(f"dear: {why}")
     with tempfile.TemporaryDirectory(prefix=f"{name}-") as folder:
         kept = pathlib.Path(folder)
-        ran = subprocess.run(words_for(name, kept), cwd=CRATES / name, stdout=subprocess.PIPE, stderr=subprocess.STDOUT, text=True)
+        ran = subprocess.run([*command, "--incremental", str(kept)], cwd=CRATES / name, stdout=subprocess.PIPE, stderr=subprocess.STDOUT,
+                             text=True)
         found = seconds_by_function(written(kept))
     dearest = sorted(found.items(), key=lambda it: -sum(seconds for seconds, _ in it[1]))
     for function, parts in dearest[:count]:

@@ -29,6 +29,7 @@ import struct
 import subprocess
 import sys
 import tempfile
+from fractions import Fraction
 
 # The words of usbtrace that read a scenario, and those that print all or nothing where memory is wanting.
 WORDS = ("run", "run --steps", "run --packets", "alone 1", "left", "draw", "draw --html", "check", "live", "capture", "explain")
@@ -232,7 +233,7 @@ class Room:
 
 
 def failings(made, most=None):
-    """Each call that was made, refused alone, and with all behind it; of many calls so many, evenly spread."""
+    """Each call that was made, refused alone, and with all behind it; of many calls so many, or such a part of them, evenly spread."""
     for kind in ("memory", "threads"):
         for call in spread(made[kind], most):
             yield Failing(kind, call, call)
@@ -240,7 +241,9 @@ def failings(made, most=None):
 
 
 def spread(count, most):
-    """The numbers from 1 to this, or so many of them, evenly spread."""
+    """The numbers from 1 to this, or so many of them, evenly spread; where that is a fraction, such a part of them."""
+    if isinstance(most, Fraction):
+        most = math.ceil(count * most)
     if most is None or count <= most:
         return range(1, count + 1)
     return sorted({1 + place * (count - 1) // max(most - 1, 1) for place in range(most)})

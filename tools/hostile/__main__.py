@@ -42,7 +42,7 @@ import streams
 import texts
 import truth
 from refuse_allocations import SECONDS
-from runs import ROOT, Runs
+from runs import MOST, OWN, ROOT, Runs
 
 KNOWN = pathlib.Path(__file__).resolve().parent / "known.txt"
 PARTS = {
@@ -60,8 +60,8 @@ PARTS = {
 SHOWN = {**texts.TEXTS, "truth": truth.scenario}
 # How many wrong runs of a part are told.
 MOST_TOLD = 12
-# How many calls of a run fail; of one of the gate all do.
-MOST, GATE_MOST = 200, None
+# Of a run of the gate all calls fail.
+GATE_MOST = None
 
 
 def known(part):
@@ -131,7 +131,8 @@ def options(words):
     it.add_argument("--seed", type=int, default=1, help="of the first random scenario, and of the first damaged one")
     it.add_argument("--show", action="store_true", help="print the text of that seed, of the part that is named, and try nothing")
     it.add_argument("--count", type=int, help=f"how many texts: {texts.COUNT:,} random or damaged scenarios, {truth.COUNT:,} of truth")
-    it.add_argument("--most", type=int, default=MOST, help="how many calls of a run fail, evenly spread; the gate has its own number")
+    it.add_argument("--most", type=int, default=OWN, metavar="N",
+                    help=f"N calls of a run fail, evenly spread, in place of {MOST}, of all or a fifth in memory, and of all in the gate")
     it.add_argument("--each", type=int, default=1, metavar="K", help="each Kth case alone, for a quick look")
     it.add_argument("--seconds", type=float, default=SECONDS, help="of processor time that a run may take; six times that by the clock")
     it.add_argument("--jobs", type=int, default=os.cpu_count(), help="how many runs at a time; the gate makes one")

@@ -26,7 +26,7 @@ def tried(runs, name, word):
     if not program.is_file():
         yield Tried("wrong", f"there is no bin/{name}: tools/program.py try {name} builds it")
         return
-    for failing, kind, it in tries_same(runs, [program, *word.split()], runs.seconds, runs.most):
+    for failing, kind, it in tries_same(runs, [program, *word.split()], runs.seconds, runs.most_of()):
         yield Tried(kind, f"{name} {word}: {told(failing)}: {said(it)}")
 
 

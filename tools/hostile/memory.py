@@ -1,4 +1,7 @@
-"""Every word over every row, where an allocation or a thread is refused, alone or with all behind it."""
+"""Every word over every row, where an allocation or a thread is refused, alone or with all behind it: each that `run` makes, and a fifth of
+those of every other word, evenly spread."""
+from fractions import Fraction
+
 from refuse_allocations import WORDS, said, told, tries
 from runs import ROWS, Part, Tried, row_input
 
@@ -10,6 +13,9 @@ GATE = (
     ("test", "a_test_is_passed"), ("device", "a_device_of_its_descriptor"), ("check", "a_good_scenario_is_counted"), ("check", "slips_of_editors"),
     ("live", "resubmit_three_rounds_live"), ("live", "handles_by_their_names"), ("live", "an_unplug_line_behind_a_bad_one"),
 )
+
+# How many of the calls of a word are refused but of `run`, whose calls are all.
+PART_OF_OTHERS = Fraction(1, 5)
 
 
 def cases(_):
@@ -28,7 +34,9 @@ def gate_cases(_):
 
 def tried(runs, word, name, given):
     """The runs of a word over a row, each with a call that is refused."""
-    for failing, kind, it in tries(runs, runs.program, word, given, runs.most, runs.seconds):
+    is_run = word.split("--rounds")[0].strip() == "run"
+    most = runs.most_of(None if is_run else PART_OF_OTHERS)
+    for failing, kind, it in tries(runs, runs.program, word, given, most, runs.seconds):
         yield Tried(kind, f"{word}: {name}: {told(failing)}: {said(it)}")
 
 

@@ -22,11 +22,20 @@ Part = collections.namedtuple("Part", "cases gate_cases tried counted", defaults
 Tried = collections.namedtuple("Tried", "kind text came", defaults=({},))
 
 
+# How many calls of a run fail, where it isn't said, and no part has a rule of its own; and that it isn't said.
+MOST, OWN = 200, -1
+
+
 class Runs(Room):
-    """Runs a program with the library that fails calls. Of a run's calls `most` fail, evenly spread; all where it is None."""
+    """Runs a program with the library that fails calls. Of a run's calls `most` fail, evenly spread; all where it is None, and as many as
+    each part has it where it is OWN."""
 
     def __init__(self, program, seconds, most):
         self.program, self.seconds, self.most = program, seconds, most
+
+    def most_of(self, own=MOST):
+        """How many calls fail, or such a part of them; `own` where nobody asked for another number."""
+        return own if self.most == OWN else self.most
 
     def of(self, word, given, failing=NOTHING, times=1):
         """How a word ends over an input; it may take so many times the seconds."""

@@ -69,7 +69,7 @@ def tried(runs, word, name, given):
     whole, name = runs.of(word, given), f"{word}: {name}"
     is_sound = whole.status in ENDS and (whole.made["reads"] or word not in WORDS)
     yield wrong_unless(is_sound, "undisturbed", name, whole)
-    for failing, is_same in failings(whole.made, runs.most):
+    for failing, is_same in failings(whole.made, runs.most_of()):
         how = errno.errorcode[failing.code] if failing.code else "a byte a call"
         it = runs.of(word, given, failing)
         yield judged(f"{name}: {failing.kind} {failing.first}: {how}", word, failing.kind, is_same, it, whole,
