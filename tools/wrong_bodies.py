@@ -4,8 +4,8 @@ must-fail/NAME.edit. A line `rule: NAME` in front names a rule of the model that
 
     tools/wrong_bodies.py fit             says which of them, of the gate's own and of tools/plants fit their files no more; seconds, and
                                           the gate asks it
-    tools/wrong_bodies.py turn            has the prover refuse those whose turn it is at this commit, a twentieth, until six processor
-                                          minutes are spent; the gate asks it behind its proofs, whose libraries it takes
+    tools/wrong_bodies.py turn [MINUTES]  has the prover refuse those whose turn it is at this commit, a twentieth, until six processor
+                                          minutes are spent, or so many; the gate asks it behind its proofs, whose libraries it takes
     tools/wrong_bodies.py turn --dry      names them, and tries none
     tools/wrong_bodies.py try [CRATE ..]  has the prover refuse each, in a copy of the repository beside it: half a minute
                                           each; and first proves the crates, where this machine's gate hasn't
@@ -109,10 +109,10 @@ class Report:
         return 1 if self.wrong else 0
 
 
-def take_turn(is_dry: bool, keeps: bool) -> int:
-    revision, found = wrong_turn.commit(), beside()
-    chosen = wrong_turn.turn(revision, found)
-    print(f"{len(chosen)} of the {len(found)} wrong bodies beside the gate have their turn at {revision[:12] or 'no commit'}", flush=True)
+def take_turn(is_dry: bool, seconds: float, keeps: bool) -> int:
+    content, found = wrong_turn.content(), beside()
+    chosen = wrong_turn.turn(content, found)
+    print(f"{len(chosen)} of the {len(found)} wrong bodies beside the gate have their turn with the files {content[:12] or 'of no commit'}", flush=True)
     if is_dry:
         print("".join(f"{wrong_turn.name_of(it)}\n" for it in chosen), end="")
         return 0
@@ -122,15 +122,15 @@ def take_turn(is_dry: bool, keeps: bool) -> int:
     except prover.NotBuilt as why:
         print(f"none is tried: {why}")
         return 1
-    return told_turn(chosen, Report(keeps))
+    return told_turn(chosen, seconds, Report(keeps))
 
 
-def told_turn(chosen: List[pathlib.Path], report: Report) -> int:
-    """Tries these, and tells what came of them: the status. One of none that was refused shows nothing, so it fails."""
-    wrong_turn.try_turn(chosen, report.tell)
+def told_turn(chosen: List[pathlib.Path], seconds: float, report: Report) -> int:
+    """Tries these, and tells what came of them: the status. On a slow machine it may be that there is time for none."""
+    wrong_turn.try_turn(chosen, seconds, report.tell)
     status = report.end()
     print(f"{report.counts['refused']} of them refused, {report.counts['unknown']} not tried, {report.wrong} wrong")
-    return status if report.counts["refused"] else 1
+    return status
 
 
 def try_all(crates: List[str], keeps: bool) -> int:
@@ -168,8 +168,9 @@ def main(words: List[str]) -> int:
     words = [it for it in words if it != "--keep"]
     if words == ["fit"]:
         return fit()
-    if words in (["turn"], ["turn", "--dry"]):
-        return take_turn(len(words) == 2, keeps)
+    if words[:1] == ["turn"] and len(words) <= 2 and (words[1:] in ([], ["--dry"]) or words[1].isdecimal()):
+        minutes = int(words[1]) if words[1:] and words[1].isdecimal() else None
+        return take_turn("--dry" in words, wrong_turn.BUDGET if minutes is None else 60.0 * minutes, keeps)
     if words[:1] == ["try"]:
         return try_all(words[1:], keeps)
     print(__doc__)

@@ -132,23 +132,25 @@ class Turns(Crates):
 
     def turned(self, *came: wrong_turn.Tried) -> int:
         """The status of a turn in which this came of its edits."""
-        def try_turn(chosen: list, tell: "wrong_turn.Callable") -> None:
+        def try_turn(chosen: list, seconds: float, tell: "wrong_turn.Callable") -> None:
             for edit, it in zip(chosen, came):
                 tell(wrong_turn.name_of(edit), it)
 
         before, wrong_turn.try_turn = wrong_turn.try_turn, try_turn
         try:
             with contextlib.redirect_stdout(io.StringIO()):
-                return wrong_bodies.told_turn([pathlib.Path(f"low/edit_{at}.edit") for at in range(len(came))], wrong_bodies.Report(False))
+                chosen = [pathlib.Path(f"low/edit_{at}.edit") for at in range(len(came))]
+                return wrong_bodies.told_turn(chosen, wrong_turn.BUDGET, wrong_bodies.Report(False))
         finally:
             wrong_turn.try_turn = before
 
-    def test_a_turn_fails_where_an_edit_is_proved_or_bad_or_none_was_refused(self) -> None:
+    def test_a_turn_fails_where_an_edit_is_proved_or_bad(self) -> None:
         refused = wrong_turn.Tried(wrong_turn.REFUSED, "src/line.rt: it returns", "", 20.0)
         unknown = wrong_turn.Tried(wrong_turn.UNKNOWN, None, "no processor time is left", 0.0)
         proved, bad = (refused._replace(word=it, goal=None, why="why") for it in (wrong_turn.PROVED, wrong_turn.BAD))
-        self.assertEqual(self.turned(refused, unknown), 0)
-        for came in [(refused, proved), (refused, bad), (unknown, unknown), ()]:
+        for came in [(refused, unknown), (unknown, unknown)]:
+            self.assertEqual(self.turned(*came), 0)
+        for came in [(refused, proved), (refused, bad), (unknown, proved)]:
             self.assertEqual(self.turned(*came), 1)
 
     def test_a_check_is_ended_where_its_time_is_spent(self) -> None:

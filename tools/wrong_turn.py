@@ -1,5 +1,5 @@
-"""The wrong bodies whose turn it is: a twentieth of those beside the gate, chosen by a commit, and tried until some processor minutes are
-spent.
+"""The wrong bodies whose turn it is: a twentieth of those beside the gate, chosen by a commit's files, and tried until some processor
+minutes are spent.
 
 Each is looked for where it is: the prover checks the function that it changes, then that function's module, then the crate, until one of
 these isn't proved. It takes the libraries that the gate has just left below crates/, so it proves nothing else."""
@@ -38,9 +38,9 @@ class Tried(NamedTuple):
     seconds: float
 
 
-def commit() -> str:
-    """The commit that stands here; nothing where git doesn't know one."""
-    ran = subprocess.run(["git", "rev-parse", "HEAD"], cwd=edits.ROOT, capture_output=True, text=True)
+def content() -> str:
+    """The sum of the files of the commit that stands here; nothing where git doesn't know one."""
+    ran = subprocess.run(["git", "rev-parse", "HEAD^{tree}"], cwd=edits.ROOT, capture_output=True, text=True)
     return ran.stdout.strip() if ran.returncode == 0 else ""
 
 
@@ -48,9 +48,9 @@ def name_of(edit: pathlib.Path) -> str:
     return f"{edit.parent.name}/{edit.stem}"
 
 
-def turn(revision: str, found: List[pathlib.Path]) -> List[pathlib.Path]:
-    """The edits whose turn it is at a commit, in the order in which they are tried: anybody gets the same ones."""
-    by_sum = sorted(found, key=lambda it: hashlib.sha256(f"{revision} {name_of(it)}".encode()).digest())
+def turn(content: str, found: List[pathlib.Path]) -> List[pathlib.Path]:
+    """The edits whose turn it is with these files, in the order in which they are tried: anybody gets the same ones."""
+    by_sum = sorted(found, key=lambda it: hashlib.sha256(f"{content} {name_of(it)}".encode()).digest())
     return by_sum[: -(-len(found) // SHARE)]
 
 
@@ -154,9 +154,10 @@ def tried(edit: pathlib.Path, purse: Purse) -> Tried:
     raise AssertionError("the last place is the crate")
 
 
-def try_turn(chosen: List[pathlib.Path], tell: Callable[[str, Tried], None]) -> None:
-    """Tries the chosen edits, as many at a time as there are processors, and tells what came of each, in their order."""
-    purse = Purse(BUDGET)
+def try_turn(chosen: List[pathlib.Path], seconds: float, tell: Callable[[str, Tried], None]) -> None:
+    """Tries the chosen edits, as many at a time as there are processors, and tells what came of each, in their order. No more processor
+    seconds are spent."""
+    purse = Purse(seconds)
     with ThreadPoolExecutor(os.cpu_count()) as pool:
         for edit, it in zip(chosen, pool.map(lambda edit: tried(edit, purse), chosen)):
             tell(name_of(edit), it)
