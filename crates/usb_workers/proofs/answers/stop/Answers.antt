@@ -5,7 +5,7 @@ use Rattle.usb_workers.proofs.Told.{ends_told, not_missed, once_counted, once_mo
 use Rattle.usb_workers.proofs.answers.stop.Goals as goal
 
 pub loop-init : goal.loop-init
-loop-init g c = record { often = (0, not_missed _); counted = c.requires }
+loop-init g c = record { often = (0, not_missed _); counted = c.requires.counted }
 
 pub returns-then-is_ok-clause-told : goal.returns-then-is_ok-clause-told
 returns-then-is_ok-clause-told g c =
