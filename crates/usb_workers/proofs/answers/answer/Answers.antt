@@ -17,7 +17,7 @@ returns-in_default-resubmit-clause-told g c =
     R.Tells.goes_on (subst (λ o. Resubmits g.L.Naming.setup c.args.h c.args.n c.args.verdict (is_some o) c.args.caller.now c.resubmit.new.caller) c.in_default-resubmit.is c.resubmit.ensures)
 
 pub stop-requires-in-Some-resubmit : goal.stop-requires-in-Some-resubmit
-stop-requires-in-Some-resubmit g c = still_counted g.L.Naming.setup c.args.tries.now.refused c.args.h c.args.n c.args.verdict _ c.args.caller.now c.resubmit.new.caller c.resubmit.ensures c.requires.counted
+stop-requires-in-Some-resubmit g c = record { counted = still_counted g.L.Naming.setup c.args.tries.now.refused c.args.h c.args.n c.args.verdict _ c.args.caller.now c.resubmit.new.caller c.resubmit.ensures c.requires.counted }
 
 pub returns-in_default-resubmit-clause-counted : goal.returns-in_default-resubmit-clause-counted
 returns-in_default-resubmit-clause-counted g c = still_counted g.L.Naming.setup c.args.tries.now.refused c.args.h c.args.n c.args.verdict _ c.args.caller.now c.resubmit.new.caller c.resubmit.ensures c.requires.counted
