@@ -1,11 +1,13 @@
 -- A run with what is said of its entries, piece by piece.
-use Rattle.std.proofs.Common.{◌≡◌, ℕ, ◌+◌, ◌<◌, ◌≤◌, List, [], ◌∷◌, ◌++◌, length, drop, get_or, map, slice_index_or, sym, ap, ◌∙◌, append-nil, append_assoc}
+use Rattle.std.proofs.Common.{◌≡◌, ℕ, ◌+◌, ◌<◌, ◌≤◌, List, [], ◌∷◌, ◌++◌, length, drop, get_or, map, slice_index_or, Option, refl, sym, ap, ◌∙◌, append-nil, append_assoc}
 use Rattle.std.proofs.lemmas.List.{drop-map, drop_more, drop_all}
 use Rattle.usb_model.specs.declared.plan.Plan.{Plan}
 use Rattle.usb_model.specs.Setup.{Setup}
 use Rattle.usb_model.specs.World.Plans.{Stage, stage_after, steps_of}
-use Rattle.trace_explain.specs.Explained.{explained_from, told_piece}
+use Rattle.trace_explain.specs.Explained.{IsAsked, explained_from, is_told, told_piece}
+use Rattle.trace_explain.specs.declared.sentence.Reason.{Reason}
 use Rattle.trace_explain.specs.declared.telling.Telling.{Telling}
+use Rattle.trace_explain.specs.declared.telling.Telling.TheVariants.{Reasons, Refusals, Packets, StepPackets}
 
 -- what is told of a piece stands behind the others, and the rest is told from the stage behind it
 pub explained-further : (told : Telling) (setup : Setup) (s t : Stage) (piece : Plan) (plan : List Plan) (i : ℕ) (line : ℕ × List ℕ) (lines : List (ℕ × List ℕ)) (before after all : List ℕ)
@@ -31,3 +33,10 @@ explained-end told setup s plan i lines text all past so_far =
 -- the line of a piece, and those behind it
 pub line_at : {A B : Type 0} (f : A → B) (xs : List A) (i : ℕ) (d : A) → i < length xs → drop i (map f xs) ≡ f (get_or xs i d) ∷ drop (i + 1) (map f xs)
 line_at f xs i d within = drop-map f i xs ∙ ap (map f) (drop_more xs i d within) ∙ ap (λ l. f (get_or xs i d) ∷ l) (sym (drop-map f (i + 1) xs))
+
+-- whether a piece is told may be asked of the reason that was asked for
+pub told_by_asked : (told : Telling) (reason own : Option Reason) → IsAsked told reason own → is_told told reason ≡ is_told told own
+told_by_asked Reasons reason own asked = refl
+told_by_asked Refusals reason own asked = ap (is_told Refusals) asked
+told_by_asked Packets reason own asked = refl
+told_by_asked StepPackets reason own asked = refl

@@ -1,5 +1,5 @@
 -- A run with what there is to say of its entries.
-use Rattle.std.specs.Prelude.{ℕ, ◌++◌, Bool, true, false, List, [], ◌∷◌, Option, Some, None, codes}
+use Rattle.std.specs.Prelude.{◌≡◌, ⊤, ℕ, ◌++◌, Bool, true, false, List, [], ◌∷◌, Option, Some, None, codes}
 use Rattle.std.specs.List.{flat_map}
 use Rattle.usb_model.specs.declared.entry.Entry.{Entry}
 use Rattle.usb_model.specs.declared.plan.Plan.{Plan}
@@ -60,6 +60,13 @@ is_refusal reason = false
 abbrev pub is_told : Telling → Option Reason → Bool
 is_told Refusals reason = is_refusal reason
 is_told telling reason = true
+
+-- a reason is that of a piece's first step, where what is told has to do with reasons
+abbrev pub IsAsked : Telling → (reason own : Option Reason) → Type 0
+IsAsked Reasons reason own = reason ≡ own
+IsAsked Refusals reason own = reason ≡ own
+IsAsked Packets reason own = ⊤
+IsAsked StepPackets reason own = ⊤
 
 -- a text, where it is told
 abbrev pub where_told : Bool → List ℕ → List ℕ

@@ -8,7 +8,7 @@ ghost use Rattle.usb_model.specs.World.Plans.{rules_after, stage_after, steps_of
 ghost use Rattle.reference.specs.PlanRuns.{stage_of};
 ghost use Rattle.trace_explain.specs.Packets.{packet_lines};
 ghost use Rattle.trace_scenario.specs.StepLines.{numbered};
-ghost use Rattle.trace_explain.specs.Explained.{explained_entries, explained_from, explained_text, first_reason, first_step, note_text, reason_line, told_entry, told_piece};
+ghost use Rattle.trace_explain.specs.Explained.{IsAsked, explained_entries, explained_from, explained_text, first_reason, first_step, note_text, reason_line, told_entry, told_piece};
 
 use crate::packets::packet_lines;
 use crate::telling::Telling;
@@ -95,6 +95,16 @@ fn reason_for(setup: &Setup, run: &PlanRun, piece: &Plan) -> Option<Reason>
     }
 }
 
+/// The same, where what is told of a run has to do with reasons; else none, so that none is looked for.
+fn reason_asked(telling: Telling, setup: &Setup, run: &PlanRun, piece: &Plan) -> Option<Reason>
+    ensures { (rules : List Rule) → IsAsked telling result (first_reason setup.now (stage_of setup.now run.now rules) piece.now) }
+{
+    match telling {
+        Telling::Reasons | Telling::Refusals => reason_for(setup, run, piece),
+        Telling::Packets | Telling::StepPackets => None,
+    }
+}
+
 /// The lines of the packets that the first step of a piece moves. What a callback answers moves none.
 fn packets_for(
     alloc: Global,
@@ -110,7 +120,7 @@ fn packets_for(
     }
 }
 
-/// What stands below the first entry of a piece whose first step has this reason.
+/// What stands below the first entry of a piece whose first step has this reason, where it is asked for.
 fn note(
     alloc: Global,
     telling: Telling,
@@ -119,7 +129,7 @@ fn note(
     piece: &Plan,
     reason: &Option<Reason>,
 ) -> Result<Vec<u8>, AllocError>
-    ensures { (rules : List Rule) → let s = stage_of setup.now run.now rules in reason.now ≡ first_reason setup.now s piece.now
+    ensures { (rules : List Rule) → let s = stage_of setup.now run.now rules in IsAsked telling reason.now (first_reason setup.now s piece.now)
         → IfOk result (λ note. note.items ≡ note_text telling setup.now s piece.now) }
 {
     match telling {
@@ -129,6 +139,7 @@ fn note(
 }
 
 /// Performs a piece, and puts its entries behind a text, where it is told.
+#[tactic(auto, using(crate::proofs::Explains::told_by_asked))]
 fn explain_piece(
     alloc: Global,
     telling: Telling,
@@ -142,7 +153,7 @@ fn explain_piece(
     ensures text { IfOk result (λ _. let s = stage_of setup.now run.old rules.now in text.new.items ≡ text.old.items ++ told_piece telling setup.now s piece.now (numbered line.now)) }
     ensures stage { IfOk result (λ _. let s = stage_of setup.now run.old rules.now in stage_of setup.now run.new (rules_after piece.now rules.now) ≡ stage_after setup.now s piece.now (steps_of setup.now s piece.now)) }
 {
-    let reason = reason_for(setup, run, piece);
+    let reason = reason_asked(telling, setup, run, piece);
     let note = note(alloc, telling, setup, run, piece, &reason)?;
     let mut entries = Sequence::new(alloc);
     run.perform(alloc, setup, piece, rules, &mut entries)?;

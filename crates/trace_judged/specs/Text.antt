@@ -1,5 +1,5 @@
 -- What is told of the run of a text's scenario.
-use Rattle.std.specs.Prelude.{ℕ, Bool, List, [], Option}
+use Rattle.std.specs.Prelude.{◌≡◌, ℕ, Bool, List, [], Option, Some, None}
 use Rattle.std.specs.List.{list_any}
 use Rattle.std.specs.Option.{option_map_or}
 use Rattle.usb_model.specs.declared.plan.Plan.{Plan}
@@ -10,7 +10,6 @@ use Rattle.usb_model.specs.World.Plans.{expand}
 use Rattle.trace_scenario.specs.declared.expectations.ExpectedPackets.{ExpectedPackets}
 use Rattle.trace_scenario.specs.declared.scenario.Scenario.{Scenario}
 use Rattle.trace_scenario.specs.Expectations.{expected_of}
-use Rattle.trace_scenario.specs.StepLines.{step_lines}
 use Rattle.trace_judged.specs.Differences.{differences}
 use Rattle.trace_judged.specs.Missing.{all_missing, is_wanted}
 use Rattle.trace_judged.specs.Report.{unexpected_of, unexpected_text}
@@ -32,9 +31,11 @@ unexpected_in expected setup plan rules lines =
 abbrev pub unexpected_by : List ℕ → Scenario → List (ℕ × List ℕ) → Option Unexpected
 unexpected_by text s lines = unexpected_in (expected_of text) s.setup s.plan s.rules lines
 
+-- what the lines of a text expect, as entries of which the same is told of any scenario's run as of the lines; none, where nothing is told of any
+abbrev pub AreExpected : List ℕ → Option (List ExpectedPackets) → Type 0
+AreExpected text None = (s : Scenario) (lines : List (ℕ × List ℕ)) → unexpected_by text s lines ≡ None
+AreExpected text (Some entries) = (s : Scenario) (lines : List (ℕ × List ℕ)) → unexpected_in entries s.setup s.plan s.rules lines ≡ unexpected_by text s lines
+
 -- in lines, each with the number of its line in the text: no byte, where nothing is told
 abbrev pub told_text : Option Unexpected → List ℕ
 told_text unexpected = option_map_or unexpected_text unexpected []
-
-abbrev pub judged_text : List ℕ → Scenario → List ℕ
-judged_text text s = told_text (unexpected_by text s (step_lines text))

@@ -20,8 +20,10 @@
 //!   line, endpoint, index, bytes, what was expected, and the first byte that differs or the end of the shorter; and
 //!   what never came is what the last world says (`all_missing`). The plain program makes the run, since between two of
 //!   its steps all that devices took can be looked at
-//! - `Judged::into_unexpected`, `unexpected_by`: what is told of it (`unexpected_of`); nothing where nothing differs and nothing is missing
-//! - `judged_text`: the lines of the same of the scenario of a text; a run of which nothing is expected isn't made
+//! - `Judged::into_unexpected`, `unexpected_in`: what is told of it (`unexpected_of`); nothing where nothing differs and nothing is missing
+//! - `expectations`: entries of which the same is told as of a text's lines, or none, where nothing is told of any run
+//!   (`AreExpected`): a run of which nothing is expected needn't be made
+//! - `told_text`: the lines of what is told
 #![tactic(auto)]
 
 mod difference;
@@ -37,5 +39,5 @@ mod unexpected;
 pub use difference::Difference;
 pub use judged::{Judged, judge};
 pub use missing::MissingPackets;
-pub use text::{judged_text, unexpected_by};
+pub use text::{expectations, told_text, unexpected_in};
 pub use unexpected::Unexpected;

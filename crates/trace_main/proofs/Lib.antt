@@ -1,5 +1,5 @@
 pub mod Reports
-mod Begun
+pub mod Begun
 mod JudgedRuns
 mod Unlived
 mod Sources

@@ -1,11 +1,10 @@
 -- What a text stands for, and by which numbers its lines are told.
 use Rattle.std.proofs.Common.{◌≡◌, ℕ, List, Option, Some, None, Result, Ok, Err, refl, ap, subst, sym}
 use Rattle.trace_scenario.specs.declared.scenario.Scenario.{Scenario}
-use Rattle.trace_scenario.specs.Runnable.{IsRunnable}
 use Rattle.trace_scenario.specs.Scenario.{scenario_of}
 use Rattle.trace_test.specs.Expanded.{Expansion}
 use Rattle.trace_test.specs.Tests.{StandsAs}
-use Rattle.trace_main.specs.Source.{IsReadFirst, Source, StandsBy, told_by}
+use Rattle.trace_main.specs.Source.{StandsBy, told_by}
 
 -- a scenario stands for itself
 pub itself : (given : List ℕ) (s : Scenario) → scenario_of given ≡ Ok s → StandsBy given (scenario_of given) None
@@ -22,7 +21,3 @@ told_good number said s is = ap (told_by number) is
 -- and a bad line by its number
 pub told_bad : (number : ℕ → ℕ) (said : Result Scenario ℕ) (line : ℕ) → said ≡ Err line → told_by number said ≡ Err (number line)
 told_bad number said line is = ap (told_by number) is
-
--- and is at hand
-pub read_first : (given : List ℕ) (s : Scenario) → scenario_of given ≡ Ok s → IsRunnable s → IsReadFirst (record { given = given; expanded = None; first = Some s })
-read_first given s read runnable = (ap (told_by (λ line. line)) read, runnable)

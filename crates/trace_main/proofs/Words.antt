@@ -9,7 +9,7 @@ use Rattle.trace_io.specs.Output.{AppendsSome}
 use Rattle.trace_io.specs.declared.fault.Fault.{Fault}
 use Rattle.trace_io.specs.declared.fault.Fault.TheVariants as why
 use Rattle.trace_io.specs.declared.words.Task.{Task}
-use Rattle.trace_io.specs.declared.words.Task.TheVariants.{Alone, Check, Draw, Explain, Left, Packets, Page, Run, Steps}
+use Rattle.trace_io.specs.declared.words.Task.TheVariants.{Alone, Check, Draw, Explain, Packets, Page}
 use Rattle.trace_run.specs.Tasks.{AppendsAny, alone_text}
 use Rattle.trace_run.specs.declared.tasks.TaskEnd.{TaskEnd}
 use Rattle.trace_run.specs.declared.tasks.TaskEnd.TheVariants.{Good, BadLines, NoDevices, Differs, Unexpected}
@@ -34,15 +34,6 @@ silent_told text src P old new given stands told = inr (src, given, stands, (tol
 -- a bad line of what a text stands for
 bad_of : (text : List ℕ) (src : Source) → src.given ≡ text → Stands src → (line : ℕ) → scenario_in src ≡ Err line → OfSource text (λ x. scenario_in x ≡ Err line)
 bad_of text src given stands line bad = (src, given, stands, bad)
-
-pub run_untold : (text : List ℕ) (src : Source) (old : Option (List ℕ)) (fault : Fault) → src.given ≡ text → Stands src → IsUntold src fault → Performs Run text [] old old (Err fault)
-run_untold text src old fault given stands is = untold_ends Run text src old fault (bad_of text src given stands) is
-
-pub steps_untold : (text : List ℕ) (src : Source) (old : Option (List ℕ)) (fault : Fault) → src.given ≡ text → Stands src → IsUntold src fault → Performs Steps text [] old old (Err fault)
-steps_untold text src old fault given stands is = untold_ends Steps text src old fault (bad_of text src given stands) is
-
-pub left_untold : (text : List ℕ) (src : Source) (old : Option (List ℕ)) (fault : Fault) → src.given ≡ text → Stands src → IsUntold src fault → Performs Left text [] old old (Err fault)
-left_untold text src old fault given stands is = untold_ends Left text src old fault (bad_of text src given stands) is
 
 pub explain_untold : (text : List ℕ) (src : Source) (old : Option (List ℕ)) (fault : Fault) → src.given ≡ text → Stands src → IsUntold src fault → Performs Explain text [] old old (Err fault)
 explain_untold text src old fault given stands is = untold_ends Explain text src old fault (bad_of text src given stands) is

@@ -1,19 +1,20 @@
 -- Where a scenario comes from: a text that is one, or a test.
-use Rattle.std.specs.Prelude.{◌≡◌, ◌⊎◌, ℕ, IfSome, List, map, Option, Some, None, Result, Ok, Err}
+use Rattle.std.specs.Prelude.{◌≡◌, ◌⊎◌, ℕ, IfSome, List, length, map, Option, Some, None, Result, Ok, Err}
 use Rattle.std.specs.Io.KnownBytes.{Keeps}
+use Rattle.trace_scenario.specs.declared.lined.Lined.{Lined}
 use Rattle.trace_scenario.specs.declared.scenario.Scenario.{Scenario}
+use Rattle.trace_scenario.specs.DeviceLines.{device_lines}
 use Rattle.trace_scenario.specs.Findings.{bad_lines}
 use Rattle.trace_scenario.specs.Runnable.{IsRunnable}
 use Rattle.trace_scenario.specs.Scenario.{scenario_of}
-use Rattle.trace_scenario.specs.StepLines.{step_lines}
+use Rattle.trace_scenario.specs.StepLines.{numbered, step_lines}
 use Rattle.trace_test.specs.Expanded.{Expansion, origin_of}
 use Rattle.trace_test.specs.Tests.{StandsAs}
 
--- a text that was read, and what it stands for in a test, if it is no scenario itself; and the scenario, as long as one that was read is at hand
+-- a text, and what it stands for in a test, if it is no scenario itself
 pub record Source : Type 0 where
   pub given : List ℕ
   pub expanded : Option Expansion
-  pub first : Option Scenario
 
 -- a text that is a scenario's stands for itself, and any other for what its lines stand for in a test
 abbrev pub StandsBy : List ℕ → Result Scenario ℕ → Option Expansion → Type 0
@@ -56,9 +57,17 @@ told_by number (Err line) = Err (number line)
 abbrev pub scenario_in : Source → Result Scenario ℕ
 scenario_in src = told_by (told_number src) (scenario_of (text_in src))
 
--- a scenario that is at hand is the text's
-abbrev pub IsReadFirst : Source → Type 0
-IsReadFirst src = IfSome src.first (λ s. (scenario_in src ≡ Ok s) × IsRunnable s)
+-- this was read of a text: its scenario, which can be run, and the lines of its steps and devices
+pub record IsReadAs (text : List ℕ) (read : Lined) : Type 0 where
+  pub scenario : scenario_of text ≡ Ok read.scenario
+  pub runnable : IsRunnable read.scenario
+  pub lines : map numbered read.lines.items ≡ step_lines text
+  pub devices : read.devices.items ≡ device_lines text
+  pub each : length read.lines.items ≡ length read.scenario.plan
+
+-- what was read first is what there is to read
+abbrev pub IsReadFirst : Source → Option Lined → Type 0
+IsReadFirst src first = IfSome first (IsReadAs (text_in src))
 
 -- lines with the numbers by which they are told
 abbrev pub told_lines : (ℕ → ℕ) → List (ℕ × List ℕ) → List (ℕ × List ℕ)

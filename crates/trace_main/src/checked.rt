@@ -10,9 +10,9 @@ ghost use Rattle.trace_scenario.specs.Counts.{counts_of};
 ghost use Rattle.trace_scenario.specs.Findings.{bad_lines, good_lines};
 ghost use Rattle.trace_scenario.specs.StepLines.{numbered};
 ghost use Rattle.trace_main.specs.Program.{Begins, Performs};
-ghost use Rattle.trace_main.specs.Source.{Stands, text_in, told_number};
+ghost use Rattle.trace_main.specs.Source.{IsReadFirst, Stands, text_in, told_number};
 
-use crate::source::Source;
+use crate::source::{Opened, Source};
 use crate::told::write_all;
 use std::alloc::{AllocError, Global};
 use std::io::Write;
@@ -56,10 +56,10 @@ pub(crate) fn report<W: Write>(alloc: Global, text: &[u8], out: &mut W) -> Resul
     ensures ends { Performs Check text.now [] (W.contents out.old) (W.contents out.new) result }
     ensures begun { Begins Check text.now (W.contents out.old) (W.contents out.new) }
 {
-    let source = Source::new(alloc, text)?;
+    let Opened { source, first } = Source::open(alloc, text)?;
     let Findings { bad, counts } = check(alloc, source.text())?;
     if bad.is_empty() {
-        return report_good(alloc, &source, &counts, out);
+        return report_good(alloc, &source, first, &counts, out);
     }
     let bad = told_findings(alloc, &source, bad.as_slice())?;
     print_findings(alloc, out, &Findings { bad, counts })?;
@@ -92,9 +92,11 @@ fn said(
 fn report_good<W: Write>(
     alloc: Global,
     source: &Source<'_>,
+    first: Option<Lined<'_>>,
     counts: &Counts,
     out: &mut W,
 ) -> Result<TaskEnd, Fault>
+    requires first { IsReadFirst source.now first }
     requires short { length source.now.given ≤ longest_input }
     requires stands { Stands source.now }
     requires good { bad_lines (text_in source.now) ≡ [] }
@@ -108,7 +110,7 @@ fn report_good<W: Write>(
             lines,
             ..
         },
-    ) = source.read(alloc)
+    ) = source.read(alloc, first)
     else {
         return Err(Fault::Memory);
     };

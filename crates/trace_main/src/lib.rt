@@ -57,6 +57,7 @@
 //! - `described_devices`, status 0: the input is a capture, and what was written is the text of the one device that is meant, with what a
 //!   file says of it where the capture says nothing (`described_scenario` of `trace_recorded`), and nothing is on standard error; status 1:
 //!   that device is left out, or the message of the fault that ended it is begun. A capture that is refused is never printed of
+//! - `run_test`, `status_of`: what `trace` does with a test, and how it tells what ended a task and answers the status, for who tells more behind it
 //! - within `trace_main`: `run`, `run --steps`, `alone` and `capture` print each line or record as the core comes to
 //! it,   and keep no entry. A run that finds no memory prints the lines of a beginning of its entries (`PrintsTo`), or
 //! the   file of a beginning of its events (`PrintsFile`), unless printing fails too. The fault that ended a task is
@@ -85,4 +86,5 @@ mod tested;
 mod told;
 
 pub use described::described_devices;
-pub use program::trace;
+pub use program::{status_of, trace};
+pub use tested::run_test;

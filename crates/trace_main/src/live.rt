@@ -11,7 +11,7 @@ ghost use Rattle.trace_main.specs.Program.{Begins, IsAlone, IsSilentAtBad, Perfo
 ghost use Rattle.trace_run.specs.declared.tasks.TaskEnd.TheVariants.{BadLines, NoDevices};
 
 use crate::lived::lived;
-use crate::source::Source;
+use crate::source::{Opened, Source};
 use std::alloc::Global;
 use std::io::Write;
 use std::sync::Wait;
@@ -82,6 +82,6 @@ pub(crate) fn live<T: Threads + Wait + Sync, W: Write>(
     ensures silent { IsSilentAtBad text.now (W.contents out.old) (W.contents out.new) }
     ensures begun { Begins (Live rounds) text.now (W.contents out.old) (W.contents out.new) }
 {
-    let source = Source::new(alloc, text)?;
-    live_scenario(rt, alloc, lived(alloc, &source)?, rounds, out, notes)
+    let Opened { source, first } = Source::open(alloc, text)?;
+    live_scenario(rt, alloc, lived(alloc, &source, first)?, rounds, out, notes)
 }

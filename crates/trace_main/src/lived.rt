@@ -1,15 +1,16 @@
 //! The scenario of a text that is run in threads.
 
-ghost use Rattle.std.specs.Prelude.{◌≡◌, ◌==◌, IfOk, Some};
+ghost use Rattle.std.specs.Prelude.{◌≡◌, ◌==◌, IfOk, IfSome, Some};
 ghost use Rattle.std.specs.List.{slice_split};
 ghost use Rattle.trace_scenario.specs.Line.{line_of_text};
 ghost use Rattle.usb_scripttext.specs.Results.{AnswersAs};
 ghost use Rattle.trace_scenario.specs.Runnable.{IsRunnable};
 ghost use Rattle.trace_main.specs.Lived.{first_unlived, is_unlived, lived_in, lived_of};
+ghost use Rattle.trace_main.specs.Source.{IsReadAs, IsReadFirst};
 
-use crate::source::Source;
+use crate::source::{Source, scenario_of};
 use std::alloc::{AllocError, Global};
-use trace_scenario::{Line, Scenario, read_scenario};
+use trace_scenario::{Line, Lined, Scenario};
 use usb_model::{Plan, Step};
 use usb_scripttext::{LineFault, TextFault};
 
@@ -50,14 +51,15 @@ fn first_unlived(alloc: Global, text: &[u8]) -> Result<Option<u64>, AllocError>
 
 /// The scenario of a text, or the number of its first line that isn't taken, or asks for what no handle's thread does.
 /// What it gives can be run.
-fn read_lived(alloc: Global, text: &[u8]) -> Result<Scenario, TextFault>
+fn read_lived(alloc: Global, text: &[u8], first: Option<Lined<'_>>) -> Result<Scenario, TextFault>
+    requires { IfSome first (IsReadAs text.now) }
     ensures scenario { AnswersAs result (lived_of text.now) }
     ensures runnable { IfOk result (λ s. IsRunnable s) }
 {
     let Ok(unlived) = first_unlived(alloc, text) else {
         return Err(TextFault::Memory);
     };
-    match (unlived, read_scenario(alloc, text)) {
+    match (unlived, scenario_of(alloc, text, first)) {
         (None, read) => read,
         (Some(at), Ok(_)) => Err(TextFault::Line(at)),
         (Some(at), Err(TextFault::Line(line))) => Err(TextFault::Line(line.min(at))),
@@ -67,11 +69,16 @@ fn read_lived(alloc: Global, text: &[u8]) -> Result<Scenario, TextFault>
 
 /// The same of what a text stands for; a bad line is told as the text has it.
 #[tactic(auto, using(crate::proofs::Sources::told_good, crate::proofs::Sources::told_bad))]
-pub(crate) fn lived(alloc: Global, source: &Source<'_>) -> Result<Scenario, TextFault>
+pub(crate) fn lived(
+    alloc: Global,
+    source: &Source<'_>,
+    first: Option<Lined<'_>>,
+) -> Result<Scenario, TextFault>
+    requires { IsReadFirst source.now first }
     ensures scenario { AnswersAs result (lived_in source.now) }
     ensures runnable { IfOk result (λ s. IsRunnable s) }
 {
-    match read_lived(alloc, source.text()) {
+    match read_lived(alloc, source.text(), first) {
         Ok(scenario) => Ok(scenario),
         Err(TextFault::Line(line)) => Err(TextFault::Line(source.number(line))),
         Err(TextFault::Memory) => Err(TextFault::Memory),

@@ -12,7 +12,7 @@ ghost use Rattle.trace_io.specs.declared.fault.Fault.{Fault};
 ghost use Rattle.trace_io.specs.Input.{longest_input};
 ghost use Rattle.trace_io.specs.Output.{AppendsSome};
 ghost use Rattle.trace_main.specs.Program.{status_of, AskForOther, AskForThreads, Begins, FindsUnexpected, IsAlone, IsSilentAtBad, IsThreaded, Performs, ReadsOther, TellsRest, TellsWhy};
-ghost use Rattle.trace_main.specs.Source.{OfSource, text_in};
+ghost use Rattle.trace_main.specs.Source.{IsReadFirst, OfSource, Stands, text_in};
 ghost use Rattle.trace_io.specs.declared.words.Task.{Task};
 ghost use Rattle.trace_run.specs.declared.tasks.TaskEnd.TheVariants.{BadLines, Differs, NoDevices};
 ghost use Rattle.trace_io.specs.declared.words.Task.TheVariants.{Capture, Check, Devices};
@@ -23,7 +23,7 @@ use crate::judged::{alone, entries, left, steps};
 use crate::live::live;
 use crate::picture::drawn;
 use crate::recorded::devices;
-use crate::source::Source;
+use crate::source::{Opened, Source};
 use crate::tested::run_test;
 use crate::told::{explain, packets};
 use clap::Error;
@@ -104,7 +104,7 @@ fn answer<W: Write, E: Write>(error: &Error, out: &mut W, err: &mut E) -> u8
 }
 
 /// The status of a task that ended so. A fault is told, and the notes behind it, or alone where there is none.
-pub(crate) fn status_of<E: Write>(ended: Result<TaskEnd, Fault>, notes: &[u8], err: &mut E) -> u8
+pub fn status_of<E: Write>(ended: Result<TaskEnd, Fault>, notes: &[u8], err: &mut E) -> u8
     ensures status { result ≡ status_of ended }
     ensures noted { OnOk ended (AppendsSome notes.now (E.contents err.old) (E.contents err.new)) }
     ensures quiet { OnOk ended (notes.now ≡ [] → Keeps (E.contents err.old) (E.contents err.new)) }
@@ -182,21 +182,39 @@ fn perform<T: Threads + Wait + Sync, R: Read, W: Write>(
     }
 }
 
-/// Writes the run of a text's scenario as a capture.
+/// Writes the run of a scenario as a capture.
 #[tactic(auto, using(crate::proofs::Begun::nothing_of, crate::proofs::Words::silent_same, crate::proofs::Words::silent_of, crate::proofs::JudgedRuns::begins_said))]
+fn capture_of<W: Write>(
+    alloc: Global,
+    source: &Source<'_>,
+    first: Option<Lined<'_>>,
+    out: &mut W,
+) -> Result<TaskEnd, Fault>
+    requires short { length source.now.given ≤ longest_input }
+    requires stands { Stands source.now }
+    requires first { IsReadFirst source.now first }
+    ensures ends { Performs Capture source.now.given [] (W.contents out.old) (W.contents out.new) result }
+    ensures silent { IsSilentAtBad source.now.given (W.contents out.old) (W.contents out.new) }
+    ensures begun { Begins Capture source.now.given (W.contents out.old) (W.contents out.new) }
+{
+    let Lined {
+        scenario,
+        lines,
+        devices,
+    } = source.read(alloc, first)?;
+    capture_run(alloc, scenario, devices.as_slice(), lines.as_slice(), out)
+}
+
+/// Writes the run of a text's scenario as a capture.
+#[tactic(auto, using(crate::proofs::Begun::nothing_of, crate::proofs::Words::silent_same))]
 fn capture<W: Write>(alloc: Global, text: &[u8], out: &mut W) -> Result<TaskEnd, Fault>
     requires { length text.now ≤ longest_input }
     ensures ends { Performs Capture text.now [] (W.contents out.old) (W.contents out.new) result }
     ensures silent { IsSilentAtBad text.now (W.contents out.old) (W.contents out.new) }
     ensures begun { Begins Capture text.now (W.contents out.old) (W.contents out.new) }
 {
-    let source = Source::new(alloc, text)?;
-    let Lined {
-        scenario,
-        lines,
-        devices,
-    } = source.read(alloc)?;
-    capture_run(alloc, scenario, devices.as_slice(), lines.as_slice(), out)
+    let Opened { source, first } = Source::open(alloc, text)?;
+    capture_of(alloc, &source, first, out)
 }
 
 /// Prints the help that the words ask for.

@@ -1,11 +1,12 @@
 //! Where a scenario comes from: a text that is one, or a test.
 
-ghost use Rattle.std.specs.Prelude.{◌≡◌, IfErr, IfOk, Ok, length, map};
+ghost use Rattle.std.specs.Prelude.{◌≡◌, IfErr, IfOk, IfSome, Ok, length, map};
 ghost use Rattle.trace_scenario.specs.DeviceLines.{device_lines};
 ghost use Rattle.trace_scenario.specs.Runnable.{IsRunnable};
 ghost use Rattle.trace_scenario.specs.StepLines.{numbered, step_lines};
-ghost use Rattle.usb_scripttext.specs.Results.{IsFaultOf};
-ghost use Rattle.trace_main.specs.Source.{IsReadFirst, Stands, scenario_in, text_in, told_lines, told_number};
+ghost use Rattle.trace_scenario.specs.Scenario.{scenario_of};
+ghost use Rattle.usb_scripttext.specs.Results.{AnswersAs, IsFaultOf};
+ghost use Rattle.trace_main.specs.Source.{IsReadAs, IsReadFirst, Stands, scenario_in, text_in, told_lines, told_number};
 
 use std::alloc::{AllocError, Global};
 use std::marker::Model;
@@ -20,8 +21,14 @@ pub(crate) struct Source<'a> {
     given: &'a [u8],
     /// What it stands for, where it is no scenario itself.
     expanded: Option<Expanded>,
-    /// The scenario, where the text is one itself and was read as one; so it isn't read once more.
-    first: Option<Scenario>,
+}
+
+/// A text that was opened.
+#[derive(Drop)]
+pub(crate) struct Opened<'a> {
+    pub(crate) source: Source<'a>,
+    /// The scenario with its lines, where the text is one itself. To know that it was read, and needn't be once more.
+    pub(crate) first: Option<Lined<'a>>,
 }
 
 impl<'a> Model for Source<'a> {
@@ -29,26 +36,46 @@ impl<'a> Model for Source<'a> {
 
     ghost Value = { Source };
 
-    ghost view = { λ src. record { given = src.given.now; expanded = src.expanded; first = src.first } };
+    ghost view = { λ src. record { given = src.given.now; expanded = src.expanded } };
+}
+
+/// The scenario of a text, as it was read first, where it was.
+pub(crate) fn scenario_of(
+    alloc: Global,
+    text: &[u8],
+    first: Option<Lined<'_>>,
+) -> Result<Scenario, TextFault>
+    requires { IfSome first (IsReadAs text.now) }
+    ensures scenario { AnswersAs result (scenario_of text.now) }
+    ensures runnable { IfOk result (λ s. IsRunnable s) }
+{
+    match first {
+        Some(Lined { scenario, .. }) => Ok(scenario),
+        None => read_scenario(alloc, text),
+    }
 }
 
 impl<'a> Source<'a> {
     /// What a text stands for. An error where memory is refused.
-    #[tactic(auto, using(crate::proofs::Sources::itself, crate::proofs::Sources::as_test, crate::proofs::Sources::read_first))]
-    pub(crate) fn new(alloc: Global, given: &'a [u8]) -> Result<Source<'a>, AllocError>
-        ensures stands { IfOk result Stands }
-        ensures given { IfOk result (λ src. src.given ≡ given.now) }
-        ensures first { IfOk result IsReadFirst }
+    #[tactic(auto, using(crate::proofs::Sources::itself, crate::proofs::Sources::as_test))]
+    pub(crate) fn open(alloc: Global, given: &'a [u8]) -> Result<Opened<'a>, AllocError>
+        ensures stands { IfOk result (λ opened. Stands opened.source) }
+        ensures given { IfOk result (λ opened. opened.source.given ≡ given.now) }
+        ensures first { IfOk result (λ opened. IsReadFirst opened.source opened.first) }
     {
-        match read_scenario(alloc, given) {
-            Ok(scenario) => Ok(Source {
-                given,
-                expanded: None,
-                first: Some(scenario),
+        match read_lined(alloc, given) {
+            Ok(read) => Ok(Opened {
+                source: Source {
+                    given,
+                    expanded: None,
+                },
+                first: Some(read),
             }),
-            Err(TextFault::Line(_)) => Ok(Source {
-                given,
-                expanded: Some(scenario_text(alloc, given)?),
+            Err(TextFault::Line(_)) => Ok(Opened {
+                source: Source {
+                    given,
+                    expanded: Some(scenario_text(alloc, given)?),
+                },
                 first: None,
             }),
             Err(TextFault::Memory) => Err(AllocError),
@@ -75,9 +102,15 @@ impl<'a> Source<'a> {
         }
     }
 
-    /// The scenario with the lines of its steps and devices, by their numbers in it; a bad line is told as the text has it.
+    /// The scenario with the lines of its steps and devices, by their numbers in it, as it was read first, where it was. A bad line is told
+    /// as the text has it.
     #[tactic(auto, using(crate::proofs::Sources::told_good, crate::proofs::Sources::told_bad))]
-    pub(crate) fn read(&self, alloc: Global) -> Result<Lined<'_>, TextFault>
+    pub(crate) fn read<'b>(
+        &'b self,
+        alloc: Global,
+        first: Option<Lined<'b>>,
+    ) -> Result<Lined<'b>, TextFault>
+        requires { IsReadFirst self.now first }
         ensures scenario { IfOk result (λ read. scenario_in self.now ≡ Ok read.scenario) }
         ensures fault { IfErr result (λ fault. IsFaultOf fault (scenario_in self.now)) }
         ensures runnable { IfOk result (λ read. IsRunnable read.scenario) }
@@ -85,6 +118,9 @@ impl<'a> Source<'a> {
         ensures devices { IfOk result (λ read. read.devices.items ≡ device_lines (text_in self.now)) }
         ensures each { IfOk result (λ read. length read.lines.items ≡ length read.scenario.plan) }
     {
+        if let Some(read) = first {
+            return Ok(read);
+        }
         match read_lined(alloc, self.text()) {
             Ok(read) => Ok(read),
             Err(TextFault::Line(line)) => Err(TextFault::Line(self.number(line))),
@@ -92,30 +128,22 @@ impl<'a> Source<'a> {
         }
     }
 
-    /// The scenario alone.
+    /// The scenario alone, in the same way.
     #[tactic(auto, using(crate::proofs::Sources::told_good, crate::proofs::Sources::told_bad))]
-    pub(crate) fn scenario(&self, alloc: Global) -> Result<Scenario, TextFault>
+    pub(crate) fn scenario(
+        &self,
+        alloc: Global,
+        first: Option<Lined<'_>>,
+    ) -> Result<Scenario, TextFault>
+        requires { IsReadFirst self.now first }
         ensures scenario { IfOk result (λ s. scenario_in self.now ≡ Ok s) }
         ensures fault { IfErr result (λ fault. IsFaultOf fault (scenario_in self.now)) }
         ensures runnable { IfOk result (λ s. IsRunnable s) }
     {
-        match read_scenario(alloc, self.text()) {
+        match scenario_of(alloc, self.text(), first) {
             Ok(scenario) => Ok(scenario),
             Err(TextFault::Line(line)) => Err(TextFault::Line(self.number(line))),
             Err(TextFault::Memory) => Err(TextFault::Memory),
-        }
-    }
-
-    /// The scenario alone, as it was read first, where it was.
-    pub(crate) fn into_scenario(mut self, alloc: Global) -> Result<Scenario, TextFault>
-        requires first { IsReadFirst self }
-        ensures scenario { IfOk result (λ s. scenario_in self.entry ≡ Ok s) }
-        ensures fault { IfErr result (λ fault. IsFaultOf fault (scenario_in self.entry)) }
-        ensures runnable { IfOk result (λ s. IsRunnable s) }
-    {
-        match self.first.take() {
-            Some(scenario) => Ok(scenario),
-            None => self.scenario(alloc),
         }
     }
 

@@ -37,9 +37,9 @@ fn tell_outcome<W: Write>(alloc: Global, outcome: &TestOutcome, out: &mut W) -> 
     write_all(out, report.as_slice())
 }
 
-/// Runs a test, and prints what came of it.
+/// Runs a test, and prints what came of it. A fault where a line is bad, by its number in the test, or memory or a stream fails.
 #[tactic(auto, using(crate::proofs::Begun::no_outcome, crate::proofs::JudgedRuns::of_run, crate::proofs::Reports::test_fails, crate::proofs::Outcomes::test_ends, crate::proofs::Outcomes::outcome_begun))]
-pub(crate) fn run_test<W: Write>(alloc: Global, text: &[u8], out: &mut W) -> Result<TaskEnd, Fault>
+pub fn run_test<W: Write>(alloc: Global, text: &[u8], out: &mut W) -> Result<TaskEnd, Fault>
     requires { length text.now ≤ longest_input }
     ensures ends { Performs Test text.now [] (W.contents out.old) (W.contents out.new) result }
     ensures begun { Begins Test text.now (W.contents out.old) (W.contents out.new) }

@@ -9,9 +9,9 @@ ghost use Rattle.trace_io.specs.Output.{AppendsSome};
 ghost use Rattle.trace_io.specs.declared.words.Task.TheVariants.{Explain, Packets};
 ghost use Rattle.trace_scenario.specs.declared.scenario.Scenario.{Scenario};
 ghost use Rattle.trace_main.specs.Program.{Begins, IsSilentAtBad, IsUntold, Performs, packets_told, told_text};
-ghost use Rattle.trace_main.specs.Source.{scenario_in};
+ghost use Rattle.trace_main.specs.Source.{IsReadFirst, scenario_in};
 
-use crate::source::Source;
+use crate::source::{Opened, Source};
 use std::alloc::Global;
 use std::io::Write;
 use trace_explain::{Telling, explained_run};
@@ -32,7 +32,13 @@ pub(crate) fn write_all<W: Write>(out: &mut W, text: &[u8]) -> Result<(), Fault>
 }
 
 /// What is told of a scenario's run.
-fn told_run(alloc: Global, telling: Telling, source: &Source<'_>) -> Result<Vec<u8>, Fault>
+fn told_run(
+    alloc: Global,
+    telling: Telling,
+    source: &Source<'_>,
+    first: Option<Lined<'_>>,
+) -> Result<Vec<u8>, Fault>
+    requires { IsReadFirst source.now first }
     ensures told { IfOk result (λ told. (s : Scenario) × (scenario_in source.now ≡ Ok s) × (told.items ≡ told_text telling source.now s)) }
     ensures fault { IfErr result (IsUntold source.now) }
 {
@@ -40,7 +46,7 @@ fn told_run(alloc: Global, telling: Telling, source: &Source<'_>) -> Result<Vec<
         scenario,
         lines,
         ..
-    } = source.read(alloc)?;
+    } = source.read(alloc, first)?;
     let lines = source.told(alloc, lines.as_slice())?;
     let Scenario { setup, plan, rules } = scenario;
     let setup = into_setups(alloc, setup)?;
@@ -67,8 +73,8 @@ pub(crate) fn explain<W: Write>(alloc: Global, text: &[u8], out: &mut W) -> Resu
     ensures silent { IsSilentAtBad text.now (W.contents out.old) (W.contents out.new) }
     ensures begun { Begins Explain text.now (W.contents out.old) (W.contents out.new) }
 {
-    let source = Source::new(alloc, text)?;
-    let told = told_run(alloc, Telling::Reasons, &source)?;
+    let Opened { source, first } = Source::open(alloc, text)?;
+    let told = told_run(alloc, Telling::Reasons, &source, first)?;
     write_all(out, told.as_slice())?;
     Ok(TaskEnd::Good)
 }
@@ -86,8 +92,8 @@ pub(crate) fn packets<W: Write>(
     ensures silent { IsSilentAtBad text.now (W.contents out.old) (W.contents out.new) }
     ensures begun { Begins (Packets steps) text.now (W.contents out.old) (W.contents out.new) }
 {
-    let source = Source::new(alloc, text)?;
-    let told = told_run(alloc, packets_told(steps), &source)?;
+    let Opened { source, first } = Source::open(alloc, text)?;
+    let told = told_run(alloc, packets_told(steps), &source, first)?;
     write_all(out, told.as_slice())?;
     Ok(TaskEnd::Good)
 }

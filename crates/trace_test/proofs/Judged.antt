@@ -8,10 +8,11 @@ use Rattle.trace_run.specs.Stepwise.{stepwise_text}
 use Rattle.trace_run.specs.Tasks.{left_lines}
 use Rattle.trace_scenario.specs.Scenario.{scenario_of}
 use Rattle.trace_scenario.specs.declared.scenario.Scenario.{Scenario}
-use Rattle.trace_test.specs.Comparison.{difference_from}
+use Rattle.trace_test.specs.Comparison.{IsAsGoodAs, all_of, difference_from}
 use Rattle.trace_test.specs.Expanded.{Expansion, Expands, lines_in}
 use Rattle.trace_test.specs.Macros.{unrolled}
 use Rattle.trace_test.specs.Tests.{IsOfPlainTest, IsOfTest, IsOutcome, IsPlainOutcome, by_origin, fault_by_origin, origin_lines, outcome_by, printed_text, uncompared, written}
+use Rattle.trace_test.specs.declared.difference.Difference.{Difference}
 use Rattle.trace_test.specs.declared.difference.TestOutcome.{TestOutcome}
 
 pub outcome_told : (text bytes : List ℕ) (u : Expansion) (plain outcome : TestOutcome) → u ≡ unrolled text → bytes ≡ u.text → IsPlainOutcome bytes plain → outcome ≡ by_origin u plain → IsOutcome text outcome
@@ -34,28 +35,27 @@ fault_told text bytes u plain fault is at of told =
     by_fault (Capture f) h = h
     by_fault (Descriptor f) h = h
 
--- what came of a test without macros, of which the scenario was read three times
-pub judged_plainly : (text : List ℕ) (e : Expansion) (s again judged : Scenario) (lines : List (ℕ × List ℕ)) (printed left : List ℕ) (unexpected : Option told.Unexpected) (o : TestOutcome)
-    → Expands text e → scenario_of e.text ≡ Ok s → scenario_of e.text ≡ Ok again → scenario_of e.text ≡ Ok judged
-    → lines ≡ origin_lines e → printed ≡ stepwise_text s.setup s.plan s.rules lines → left ≡ left_lines again → unexpected ≡ unexpected_by e.text judged lines
-    → o ≡ outcome_by (difference_from 1 (lines_in text) (record { of = 0; printed = lines_in printed; left = lines_in left })) unexpected
+-- a text is one scenario
+pub one_scenario : (r : Result Scenario ℕ) (a b : Scenario) → r ≡ Ok a → r ≡ Ok b → a ≡ b
+one_scenario (Ok x) a b first second = let same : x ≡ a = cc first in let other : x ≡ b = cc second in sym same ∙ other
+one_scenario (Err line) a b first second = cc
+
+-- what came of a test without macros, by what its run printed, what is as good as what it left, and what is told of what it wrote
+pub judged_plainly : (text : List ℕ) (e : Expansion) (s : Scenario) (lines : List (ℕ × List ℕ)) (printed left : List ℕ) (unexpected : Option told.Unexpected) (o : TestOutcome)
+    → Expands text e → scenario_of e.text ≡ Ok s → lines ≡ origin_lines e → printed ≡ stepwise_text s.setup s.plan s.rules lines
+    → ((x : Scenario) → scenario_of e.text ≡ Ok x → IsAsGoodAs text left (left_lines x))
+    → ((x : Scenario) → scenario_of e.text ≡ Ok x → unexpected ≡ unexpected_by e.text x lines)
+    → o ≡ outcome_by (difference_from 1 (lines_in text) (all_of printed left)) unexpected
     → IsPlainOutcome text o
-judged_plainly text e s again judged lines printed left unexpected o expands read read_again read_third are was behind told came =
-    let one : again ≡ s = one_scenario (scenario_of e.text) again s read_again read in
-    let other : judged ≡ s = one_scenario (scenario_of e.text) judged s read_third read in
+judged_plainly text e s lines printed left unexpected o expands read are was behind told came =
     let entries : printed ≡ printed_text e s = was ∙ ap (stepwise_text s.setup s.plan s.rules) are in
-    let rest : left ≡ left_lines s = behind ∙ ap left_lines one in
-    let wrote : unexpected ≡ written e s = told ∙ (ap (λ (x : Scenario). unexpected_by e.text x lines) other ∙ ap (unexpected_by e.text s) are) in (
+    let wrote : unexpected ≡ written e s = told s read ∙ ap (unexpected_by e.text s) are in (
       e,
       s,
       expands,
       read,
       came
-          ∙ (ap (λ (p : List ℕ). outcome_by (difference_from 1 (lines_in text) (record { of = 0; printed = lines_in p; left = lines_in left })) unexpected) entries
-          ∙ (ap (λ (l : List ℕ). outcome_by (difference_from 1 (lines_in text) (record { of = 0; printed = lines_in (printed_text e s); left = lines_in l })) unexpected) rest
+          ∙ (ap (λ (p : List ℕ). outcome_by (difference_from 1 (lines_in text) (all_of p left)) unexpected) entries
+          ∙ (ap (λ (d : Option Difference). outcome_by d unexpected) (behind s read (printed_text e s))
           ∙ ap (outcome_by (difference_from 1 (lines_in text) (uncompared e s))) wrote)),
     )
-  where
-    one_scenario : (r : Result Scenario ℕ) (a b : Scenario) → r ≡ Ok a → r ≡ Ok b → a ≡ b
-    one_scenario (Ok x) a b first second = let same : x ≡ a = cc first in let other : x ≡ b = cc second in sym same ∙ other
-    one_scenario (Err line) a b first second = cc

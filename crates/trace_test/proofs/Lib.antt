@@ -6,3 +6,4 @@ mod SettlingSteps
 mod Stands
 mod Texts
 mod Judged
+mod Unleft

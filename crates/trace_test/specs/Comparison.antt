@@ -1,11 +1,11 @@
 -- What a test's lines expect, compared with what the run printed and left.
-use Rattle.std.specs.Prelude.{ℕ, ◌+◌, ◌||◌, ◌++◌, nat_eq, Bool, false, not, is_some, length, drop, map, List, [], ◌∷◌, Option, Some, None, Result, Ok, Err, codes, if◌then◌else◌}
+use Rattle.std.specs.Prelude.{◌≡◌, ℕ, ◌+◌, ◌||◌, ◌++◌, nat_eq, Bool, false, not, is_some, length, drop, map, List, [], ◌∷◌, Option, Some, None, Result, Ok, Err, codes, if◌then◌else◌}
 use Rattle.std.specs.Fmt.{decimal}
 use Rattle.std.specs.List.{prefix_len, starts_with}
 use Rattle.std.specs.Option.{unwrap_or}
 use denote.Ref.{Bor}
 use Rattle.usb_scripttext.specs.Prefix.{behind}
-use Rattle.trace_test.specs.Expanded.{may_be_nothing}
+use Rattle.trace_test.specs.Expanded.{lines_in, may_be_nothing}
 use Rattle.trace_test.specs.Expected.{expected_any_of, expected_left_of, expected_of, fits}
 use Rattle.trace_test.specs.declared.difference.Difference.{Difference}
 
@@ -114,6 +114,18 @@ difference_past further (Err difference) = Some difference
 unfoldable pub difference_from : ℕ → List (List ℕ) → Uncompared → Option Difference
 difference_from at [] u = None
 difference_from at (line ∷ lines) u = difference_past (difference_from (at + 1) lines) (compare_line at line u)
+
+-- whether a line expects something to be left
+abbrev pub is_of_left : List ℕ → Bool
+is_of_left line = is_some (expected_left_of line)
+
+-- what is compared of a run that printed so much and left so much
+abbrev pub all_of : (printed left : List ℕ) → Uncompared
+all_of printed left = record { of = 0; printed = lines_in printed; left = lines_in left }
+
+-- a text's lines find the same difference, or none, whether this is left or that, whatever was printed
+abbrev pub IsAsGoodAs : List ℕ → (left other : List ℕ) → Type 0
+IsAsGoodAs text left other = (printed : List ℕ) → difference_from 1 (lines_in text) (all_of printed left) ≡ difference_from 1 (lines_in text) (all_of printed other)
 
 -- what a line was compared to: what is left to compare, or its difference
 abbrev pub compared_as : Option Difference → Uncompared → Result Uncompared Difference

@@ -15,7 +15,7 @@ use Rattle.trace_run.specs.Tasks.{left_lines}
 use Rattle.trace_scenario.specs.Scenario.{scenario_of}
 use Rattle.trace_scenario.specs.StepLines.{step_lines}
 use Rattle.trace_scenario.specs.declared.scenario.Scenario.{Scenario}
-use Rattle.trace_test.specs.Comparison.{Uncompared, difference_from}
+use Rattle.trace_test.specs.Comparison.{Uncompared, all_of, difference_from}
 use Rattle.trace_test.specs.Expanded.{Expansion, Expands, lines_in, origin_of}
 use Rattle.trace_test.specs.Macros.{unrolled}
 use Rattle.trace_test.specs.declared.difference.Difference.{Difference}
@@ -32,7 +32,7 @@ printed_text e s = stepwise_text s.setup s.plan s.rules (origin_lines e)
 
 -- what is to be compared
 abbrev pub uncompared : Expansion → Scenario → Uncompared
-uncompared e s = record { of = 0; printed = lines_in (printed_text e s); left = lines_in (left_lines s) }
+uncompared e s = all_of (printed_text e s) (left_lines s)
 
 -- what is told of what the run wrote, by the same numbers
 abbrev pub written : Expansion → Scenario → Option told.Unexpected

@@ -1,27 +1,27 @@
 //! A test, and what came of it.
 
-ghost use Rattle.std.specs.Prelude.{◌≡◌, ◌++◌, [], IfErr, IfOk, length, map};
+ghost use Rattle.std.specs.Prelude.{◌≡◌, ◌++◌, [], IfErr, IfOk, Ok, length, map};
 ghost use Rattle.std.specs.List.{flat_map};
 ghost use Rattle.std.specs.Option.{option_map};
 ghost use Rattle.trace_test.specs.declared.difference.TestOutcome.TheVariants.{Differs};
 ghost use Rattle.trace_io.specs.Faults.{IsOfRun};
 ghost use Rattle.trace_scenario.specs.StepLines.{numbered};
-ghost use Rattle.trace_scenario.specs.Runnable.{IsRunnable};
-ghost use Rattle.trace_run.specs.Stepwise.{stepwise_text};
-ghost use Rattle.trace_run.specs.Tasks.{left_lines};
-ghost use Rattle.trace_test.specs.Comparison.{difference_from, texts_of};
+ghost use Rattle.trace_scenario.specs.Scenario.{scenario_of};
+ghost use Rattle.trace_scenario.specs.declared.scenario.Scenario.{Scenario};
+ghost use Rattle.trace_judged.specs.Text.{unexpected_by};
+ghost use Rattle.trace_test.specs.Comparison.{all_of, difference_from, texts_of};
 ghost use Rattle.trace_test.specs.Expanded.{lines_in, origin_of};
 ghost use Rattle.trace_test.specs.Tests.{IsOfPlainTest, IsOfTest, IsOutcome, IsPlainOutcome, by_origin, fault_by_origin, hides, outcome_by, outcome_text, packet_by_origin, seen, visible};
 
 use crate::difference::{Difference, TestOutcome};
 use crate::expanded::{Expanded, expand};
 use crate::macros::unroll;
+use crate::ran::{left_for, printed};
 use crate::unmet::Unmet;
 use std::alloc::{AllocError, Global};
 use trace_io::Fault;
-use trace_judged::{Unexpected, unexpected_by};
-use trace_run::{print_left, print_steps};
-use trace_scenario::{Lined, NumberedLine, Scenario, read_lined, read_scenario};
+use trace_judged::{Unexpected, expectations, unexpected_in};
+use trace_scenario::{Lined, NumberedLine, read_lined, read_scenario};
 use usb_scripttext::TextFault;
 
 /// For each step's line of the scenario, the number of the line of the test that it comes from, and no text.
@@ -42,35 +42,8 @@ pub(crate) fn origin_lines<'a>(
     Ok(origins)
 }
 
-/// What the run of a scenario prints, each entry behind the number of a line.
-pub(crate) fn printed(
-    alloc: Global,
-    scenario: Scenario,
-    lines: &[NumberedLine<'_>],
-) -> Result<Vec<u8>, Fault>
-    requires runnable { IsRunnable scenario }
-    requires each { length lines.now ≡ length scenario.plan }
-    ensures printed { IfOk result (λ out. out.items ≡ stepwise_text scenario.setup scenario.plan scenario.rules (map numbered lines.now)) }
-    ensures fault { IfErr result (λ fault. IsOfRun fault) }
-{
-    let mut out = Vec::new(alloc);
-    print_steps(alloc, scenario, lines, &mut out)?;
-    Ok(out)
-}
-
-/// What the run of a scenario leaves.
-pub(crate) fn left(alloc: Global, scenario: Scenario) -> Result<Vec<u8>, Fault>
-    requires { IsRunnable scenario }
-    ensures left { IfOk result (λ out. out.items ≡ left_lines scenario) }
-    ensures fault { IfErr result (λ fault. IsOfRun fault) }
-{
-    let mut out = Vec::new(alloc);
-    print_left(alloc, scenario, &mut out)?;
-    Ok(out)
-}
-
 /// The lines of a text.
-fn lines_in(alloc: Global, text: &[u8]) -> Result<Vec<&[u8]>, AllocError>
+pub(crate) fn lines_in(alloc: Global, text: &[u8]) -> Result<Vec<&[u8]>, AllocError>
     ensures { IfOk result (λ lines. texts_of lines.items ≡ lines_in text.now) }
 {
     text.split(|byte| *byte == b'\n').collect(alloc)
@@ -102,7 +75,7 @@ fn outcome(
     left: &[u8],
     unexpected: Option<Unexpected>,
 ) -> Result<TestOutcome, AllocError>
-    ensures { IfOk result (λ o. o ≡ outcome_by (difference_from 1 (lines_in text.now) (record { of = 0; printed = lines_in printed.now; left = lines_in left.now })) unexpected) }
+    ensures { IfOk result (λ o. o ≡ outcome_by (difference_from 1 (lines_in text.now) (all_of printed.now left.now)) unexpected) }
 {
     let (printed, left) = (lines_in(alloc, printed)?, lines_in(alloc, left)?);
     let mut unmet = Unmet::new(printed.as_slice(), left.as_slice());
@@ -157,7 +130,27 @@ fn fault_by_origin(unrolled: &Expanded, fault: Fault) -> Fault
     }
 }
 
-/// What came of a test without macros. A fault where a line is bad, by its number, or memory is refused.
+/// What is told of what the run of a test's scenario wrote: it is made for that only where its scripts expect something. The numbers are
+/// those of its steps' lines. A fault where memory is refused.
+fn written(
+    alloc: Global,
+    expanded: &Expanded,
+    origins: &[NumberedLine<'_>],
+) -> Result<Option<Unexpected>, AllocError>
+    requires each { (s : Scenario) → scenario_of expanded.now.text ≡ Ok s → length origins.now ≡ length s.plan }
+    ensures { IfOk result (λ u. (s : Scenario) → scenario_of expanded.now.text ≡ Ok s → u ≡ unexpected_by expanded.now.text s (map numbered origins.now)) }
+{
+    let Some(expected) = expectations(alloc, expanded.text.as_slice())? else {
+        return Ok(None);
+    };
+    let Ok(scenario) = read_scenario(alloc, expanded.text.as_slice()) else {
+        return Err(AllocError);
+    };
+    unexpected_in(alloc, expected.as_slice(), scenario, origins)
+}
+
+/// What came of a test without macros. Its scenario is run once, and once more for what is left or was written only where its lines expect
+/// something of that. A fault where a line is bad, by its number, or memory is refused.
 fn judge(alloc: Global, text: &[u8]) -> Result<TestOutcome, Fault>
     ensures outcome { IfOk result (IsPlainOutcome text.now) }
     ensures fault { IfErr result (IsOfPlainTest text.now) }
@@ -172,16 +165,10 @@ fn judge(alloc: Global, text: &[u8]) -> Result<TestOutcome, Fault>
         Err(TextFault::Line(line)) => return Err(Fault::Line(expanded.origin(line))),
         Err(TextFault::Memory) => return Err(Fault::Memory),
     };
-    let Ok(again) = read_scenario(alloc, expanded.text.as_slice()) else {
-        return Err(Fault::Memory);
-    };
-    let Ok(judged) = read_scenario(alloc, expanded.text.as_slice()) else {
-        return Err(Fault::Memory);
-    };
     let origins = origin_lines(alloc, &expanded, lines.as_slice())?;
     let printed = printed(alloc, scenario, origins.as_slice())?;
-    let left = left(alloc, again)?;
-    let unexpected = unexpected_by(alloc, expanded.text.as_slice(), judged, origins.as_slice())?;
+    let left = left_for(alloc, text, &expanded)?;
+    let unexpected = written(alloc, &expanded, origins.as_slice())?;
     let (printed, left) = (printed.as_slice(), left.as_slice());
     Ok(outcome(alloc, text, printed, left, unexpected)?)
 }

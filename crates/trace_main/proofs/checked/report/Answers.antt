@@ -11,11 +11,11 @@ use Rattle.trace_main.proofs.checked.report.Goals as goal
 
 pub returns-then-is_empty-clause-begun : goal.returns-then-is_empty-clause-begun
 returns-then-is_empty-clause-begun g c =
-    check_begun_of c.args.text.now c.in_ok-source.source.given (g.W.Write.contents c.args.out.now) (g.W.Write.contents c.report_good.new.out) c.in_ok-source.ensures.given c.report_good.ensures.begun
+    check_begun_of c.args.text.now c.in_ok-source.field-0.source.given (g.W.Write.contents c.args.out.now) (g.W.Write.contents c.report_good.new.out) c.in_ok-source.ensures.given c.report_good.ensures.begun
 
 pub returns-in_err-print_findings-clause-begun : goal.returns-in_err-print_findings-clause-begun
 returns-in_err-print_findings-clause-begun g c =
-    let src = c.in_ok-source.source in
+    let src = c.in_ok-source.field-0.source in
     let found : map (λ (f : Finding). f.line) c.in_ok-bad.field-0.bad.items ≡ bad_lines (text_in src) = c.in_ok-bad.ensures.bad ∙ ap bad_lines c.text.ensures in
     let counted : c.in_ok-bad.field-0.counts ≡ counts_of (good_lines (text_in src)) = c.in_ok-bad.ensures.counts ∙ ap (λ (t : List ℕ). counts_of (good_lines t)) c.text.ensures in
     let told : map (λ (f : Finding). f.line) c.in_ok-bad-2.bad.items ≡ bad_lines_in src =
@@ -26,7 +26,7 @@ returns-in_err-print_findings-clause-begun g c =
 
 pub returns-clause-begun : goal.returns-clause-begun
 returns-clause-begun g c =
-    let src = c.in_ok-source.source in
+    let src = c.in_ok-source.field-0.source in
     let found : map (λ (f : Finding). f.line) c.in_ok-bad.field-0.bad.items ≡ bad_lines (text_in src) = c.in_ok-bad.ensures.bad ∙ ap bad_lines c.text.ensures in
     let counted : c.in_ok-bad.field-0.counts ≡ counts_of (good_lines (text_in src)) = c.in_ok-bad.ensures.counts ∙ ap (λ (t : List ℕ). counts_of (good_lines t)) c.text.ensures in
     let told : map (λ (f : Finding). f.line) c.in_ok-bad-2.bad.items ≡ bad_lines_in src =
@@ -37,7 +37,7 @@ returns-clause-begun g c =
 
 pub returns-clause-ends : goal.returns-clause-ends
 returns-clause-ends g c =
-    let src = c.in_ok-source.source in
+    let src = c.in_ok-source.field-0.source in
     let found : map (λ (f : Finding). f.line) c.in_ok-bad.field-0.bad.items ≡ bad_lines (text_in src) = c.in_ok-bad.ensures.bad ∙ ap bad_lines c.text.ensures in
     let counted : c.in_ok-bad.field-0.counts ≡ counts_of (good_lines (text_in src)) = c.in_ok-bad.ensures.counts ∙ ap (λ (t : List ℕ). counts_of (good_lines t)) c.text.ensures in
     let told : map (λ (f : Finding). f.line) c.in_ok-bad-2.bad.items ≡ bad_lines_in src =

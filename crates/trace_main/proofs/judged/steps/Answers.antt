@@ -1,29 +1,14 @@
--- What is printed, and what is told behind it.
-use Rattle.std.proofs.Common.{◌≡◌, ℕ, List, map, refl, subst}
-use Rattle.trace_scenario.specs.StepLines.{numbered}
-use Rattle.trace_main.specs.Source.{step_lines_in}
+-- The text is the one that was opened.
+use Rattle.std.proofs.Common.{ℕ, List, [], subst}
 use Rattle.trace_io.specs.declared.words.Task.TheVariants.{Steps}
-use Rattle.trace_main.specs.Program.{EndsTold, steps_text}
-use Rattle.trace_main.proofs.JudgedRuns.{begun_by, begun_front, ends_by}
+use Rattle.trace_main.specs.Program.{Begins, IsSilentAtBad, Performs}
 use Rattle.trace_main.proofs.judged.steps.Goals as goal
 
-pub returns-in_err-print_steps-clause-begun : goal.returns-in_err-print_steps-clause-begun
-returns-in_err-print_steps-clause-begun g c =
-    let src = c.in_ok-source.source in
-    let lines : map numbered c.as_slice-2.result.now ≡ step_lines_in src = cc (c.as_slice-2.ensures.value, c.in_ok-lines.ensures.lines, c.as_slice.ensures.value, c.in_ok-scenario.ensures.lines) in
-    begun_front c.args.text.now src c.in_ok-scenario.field-0.scenario steps_text (g.W.Write.contents c.args.out.now) (g.W.Write.contents c.print_steps.new.out) c.in_ok-source.ensures.given c.in_ok-source.ensures.stands c.in_ok-scenario.ensures.scenario (rw lines at c.print_steps.ensures.begun)
-
 pub returns-clause-ends : goal.returns-clause-ends
-returns-clause-ends g c =
-    let src = c.in_ok-source.source in
-    let lines : map numbered c.as_slice-2.result.now ≡ step_lines_in src = cc (c.as_slice-2.ensures.value, c.in_ok-lines.ensures.lines, c.as_slice.ensures.value, c.in_ok-scenario.ensures.lines) in
-    ends_by Steps c.args.text.now src c.in_ok-scenario.field-0.scenario (steps_text src c.in_ok-scenario.field-0.scenario) (g.W.Write.contents c.args.out.now) (g.W.Write.contents c.print_steps.new.out) (g.W.Write.contents c.tell_judged.new.out) c.tell_judged.result
-    c.in_ok-source.ensures.given c.in_ok-source.ensures.stands c.in_ok-scenario.ensures.scenario c.requires refl (λ none put. (c.requires, (src, c.in_ok-source.ensures.given, c.in_ok-source.ensures.stands, (c.in_ok-scenario.field-0.scenario, c.in_ok-scenario.ensures.scenario, (none, put, refl))))) (λ found. found)
-    (rw lines at c.in_ok-print_steps.ensures.lines) (subst (λ (t : List ℕ). EndsTold t (g.W.Write.contents c.print_steps.new.out) (g.W.Write.contents c.tell_judged.new.out) c.tell_judged.result) (c.in_ok-told.ensures.told c.in_ok-scenario.field-0.scenario c.in_ok-scenario.ensures.scenario) c.tell_judged.ensures)
+returns-clause-ends g c = subst (λ (t : List ℕ). Performs Steps t [] (g.W.Write.contents c.args.out.now) (g.W.Write.contents c.steps_of.new.out) c.steps_of.result) c.in_ok-source.ensures.given c.steps_of.ensures.ends
+
+pub returns-clause-silent : goal.returns-clause-silent
+returns-clause-silent g c = subst (λ (t : List ℕ). IsSilentAtBad t (g.W.Write.contents c.args.out.now) (g.W.Write.contents c.steps_of.new.out)) c.in_ok-source.ensures.given c.steps_of.ensures.silent
 
 pub returns-clause-begun : goal.returns-clause-begun
-returns-clause-begun g c =
-    let src = c.in_ok-source.source in
-    let lines : map numbered c.as_slice-2.result.now ≡ step_lines_in src = cc (c.as_slice-2.ensures.value, c.in_ok-lines.ensures.lines, c.as_slice.ensures.value, c.in_ok-scenario.ensures.lines) in
-    begun_by c.args.text.now src c.in_ok-scenario.field-0.scenario steps_text (g.W.Write.contents c.args.out.now) (g.W.Write.contents c.print_steps.new.out) (g.W.Write.contents c.tell_judged.new.out) c.tell_judged.result
-    c.in_ok-source.ensures.given c.in_ok-source.ensures.stands c.in_ok-scenario.ensures.scenario (rw lines at c.in_ok-print_steps.ensures.lines) (subst (λ (t : List ℕ). EndsTold t (g.W.Write.contents c.print_steps.new.out) (g.W.Write.contents c.tell_judged.new.out) c.tell_judged.result) (c.in_ok-told.ensures.told c.in_ok-scenario.field-0.scenario c.in_ok-scenario.ensures.scenario) c.tell_judged.ensures)
+returns-clause-begun g c = subst (λ (t : List ℕ). Begins Steps t (g.W.Write.contents c.args.out.now) (g.W.Write.contents c.steps_of.new.out)) c.in_ok-source.ensures.given c.steps_of.ensures.begun

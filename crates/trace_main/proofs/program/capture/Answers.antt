@@ -1,15 +1,14 @@
--- The run's capture is that of the text.
-use Rattle.std.proofs.Common.{◌≡◌, map}
-use Rattle.trace_scenario.specs.DeviceLines.{device_lines}
-use Rattle.trace_scenario.specs.StepLines.{numbered, step_lines}
-use Rattle.trace_main.specs.Source.{text_in}
-use Rattle.trace_main.proofs.Reports.{captured}
+-- The text is the one that was opened.
+use Rattle.std.proofs.Common.{ℕ, List, [], subst}
+use Rattle.trace_io.specs.declared.words.Task.TheVariants.{Capture}
+use Rattle.trace_main.specs.Program.{Begins, IsSilentAtBad, Performs}
 use Rattle.trace_main.proofs.program.capture.Goals as goal
 
 pub returns-clause-ends : goal.returns-clause-ends
-returns-clause-ends g c =
-    let src = c.in_ok-source.source in
-    let devices : c.as_slice.result.now ≡ device_lines (text_in src) = cc (c.as_slice.ensures.value, c.in_ok-scenario.ensures.devices) in
-    let lines : map numbered c.as_slice-2.result.now ≡ step_lines (text_in src) = cc (c.as_slice-2.ensures.value, c.in_ok-scenario.ensures.lines) in
-    captured c.args.text.now src c.in_ok-scenario.field-0.scenario (g.W.Write.contents c.args.out.now) (g.W.Write.contents c.capture_run.new.out) c.capture_run.result
-    c.in_ok-source.ensures.given c.in_ok-source.ensures.stands c.in_ok-scenario.ensures.scenario c.requires (rw (devices, lines) at c.capture_run.ensures.file) c.capture_run.ensures.good c.capture_run.ensures.fault
+returns-clause-ends g c = subst (λ (t : List ℕ). Performs Capture t [] (g.W.Write.contents c.args.out.now) (g.W.Write.contents c.capture_of.new.out) c.capture_of.result) c.in_ok-source.ensures.given c.capture_of.ensures.ends
+
+pub returns-clause-silent : goal.returns-clause-silent
+returns-clause-silent g c = subst (λ (t : List ℕ). IsSilentAtBad t (g.W.Write.contents c.args.out.now) (g.W.Write.contents c.capture_of.new.out)) c.in_ok-source.ensures.given c.capture_of.ensures.silent
+
+pub returns-clause-begun : goal.returns-clause-begun
+returns-clause-begun g c = subst (λ (t : List ℕ). Begins Capture t (g.W.Write.contents c.args.out.now) (g.W.Write.contents c.capture_of.new.out)) c.in_ok-source.ensures.given c.capture_of.ensures.begun
