@@ -45,16 +45,14 @@ fn packets_between(places: &[Place]) -> Option<u32> {
     None
 }
 
-/// A call waits behind a row at most: the one that comes while the worker is held behind its first finds as many packets as a
-/// row has.
-pub fn rows_have_a_bound<R: Threads + Wait + Sync>(rt: &R, alloc: Global) -> Result<()> {
+/// Behind how many packets a call waits that comes while the worker is held behind its first row.
+pub fn packets_before_a_call<R: Threads + Wait + Sync>(rt: &R, alloc: Global) -> Result<u32> {
     let reader = Reader::new(1, 0, 0)?;
     let setup = devices(alloc, 1, 8, &SIZES)?;
     let stop = Stop(WorkerStep::Serve, 2);
     let seen = play(rt, alloc, setup, stop, BURST, &[reader], &[&ACTS])?;
     match packets_between(seen.places.as_slice()) {
-        Some(BURST) => Ok(()),
-        Some(packets) => Err(anyhow!("a call waits behind {packets} packets")),
+        Some(packets) => Ok(packets),
         None => Err(anyhow!("there is no second submission")),
     }
 }

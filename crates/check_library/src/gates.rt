@@ -3,7 +3,7 @@
 use crate::acts::{Act, CLAIM, CLOSE_IN_TIME, Deed, Event, OPEN, READ_1, READ_8};
 use crate::call::Ask;
 use crate::callback::Manner;
-use crate::scene::Scene;
+use crate::scene::{Answers, Look, Scene};
 use crate::signals::Mark;
 use crate::turnstile::{NOWHERE, Stop};
 use usb_workers::WorkerStep;
@@ -23,13 +23,9 @@ const GO_ON: Act = Act::Say(Mark::GoOn);
 /// How often a thread gives way before it takes a worker to be parked.
 const PARKING_TURNS: u64 = 10_000;
 
-/// What two callbacks of 8 bytes each are told.
-const TWO: &str = "h1 called 0 ep 81 round 0 COMPLETED 8 data 0102030405060708\n\
-    h1 called 1 ep 81 round 0 COMPLETED 8 data 090a0b0c0d0e0f10\n";
-
 /// A callback is held until a submission of another thread was answered: it is called with no lock held.
 const HELD_CALLBACK: Scene = Scene {
-    line: "held callback: a submission is answered while a callback is held",
+    name: "held callback: a submission while a callback is held",
     sizes: &[8, 8],
     stops: &[NOWHERE],
     threads: &[&[
@@ -40,14 +36,13 @@ const HELD_CALLBACK: Scene = Scene {
         READ_8_IN_TIME,
         GO_ON,
     ]],
-    answers: Some("done\ndone\nnumber 0\nnumber 1\n"),
-    endings: Some(&[TWO]),
-    cuts: 0,
+    answers: Answers::All,
+    callbacks: Look::Told,
 };
 
 /// The controller's second packet waits until the other worker has called a callback: the two run beside each other.
 const TWO_LOOPS: Scene = Scene {
-    line: "two loops: a callback is called while the controller waits",
+    name: "two loops: a callback while the controller waits",
     sizes: &[8, 8],
     stops: &[Stop(WorkerStep::Serve, 2)],
     threads: &[&[
@@ -56,15 +51,14 @@ const TWO_LOOPS: Scene = Scene {
         Act::InTime(Deed::Read(8, Manner::LetsGo)),
         READ_8_IN_TIME,
     ]],
-    answers: None,
-    endings: Some(&[TWO]),
-    cuts: 0,
+    answers: Answers::All,
+    callbacks: Look::Told,
 };
 
 /// A transfer is cancelled when a worker first comes to a point, or its callback was called: it is called back once, the
 /// bytes are the first of its device's, and the endpoint is at rest in the end.
 const CANCEL_POINTS: Scene = Scene {
-    line: "cancel points: cancelled at each point, called back once, and closed",
+    name: "cancel points: a transfer is cancelled at each",
     sizes: &[8, 8, 3],
     stops: &[
         Stop(WorkerStep::Serve, 1),
@@ -83,19 +77,18 @@ const CANCEL_POINTS: Scene = Scene {
         GO_ON,
         CLOSE_IN_TIME,
     ]],
-    answers: None,
-    endings: Some(&[
+    answers: Answers::Last,
+    callbacks: Look::OneOf(&[
         "h1 called 0 ep 81 round 0 COMPLETED 19 data 0102030405060708090a0b0c0d0e0f10111213\n",
         "h1 called 0 ep 81 round 0 CANCELLED 0 data -\n",
         "h1 called 0 ep 81 round 0 CANCELLED 8 data 0102030405060708\n",
         "h1 called 0 ep 81 round 0 CANCELLED 16 data 0102030405060708090a0b0c0d0e0f10\n",
     ]),
-    cuts: 0,
 };
 
 /// While a callback's answer is held, close and release are refused; after the last of four rounds close is done.
 const CLOSE_AMID_ROUNDS: Scene = Scene {
-    line: "close amid rounds: refused while a callback is out, done after the last",
+    name: "close amid rounds: while a callback is out, and after the last",
     sizes: &[1, 1, 1, 1],
     stops: &[Stop(WorkerStep::Answer, 1)],
     threads: &[&[
@@ -108,20 +101,14 @@ const CLOSE_AMID_ROUNDS: Scene = Scene {
         GO_ON,
         CLOSE_IN_TIME,
     ]],
-    answers: Some("done\ndone\nnumber 0\nrefused 4\nrefused 4\ndone\n"),
-    endings: Some(&[
-        "h1 called 0 ep 81 round 0 COMPLETED 1 data 01\n\
-        h1 called 1 ep 81 round 1 COMPLETED 1 data 02\n\
-        h1 called 2 ep 81 round 2 COMPLETED 1 data 03\n\
-        h1 called 3 ep 81 round 3 COMPLETED 1 data 04\n",
-    ]),
-    cuts: 0,
+    answers: Answers::All,
+    callbacks: Look::Told,
 };
 
 /// A callback asks for one more round when its thread has taken the last of the endpoint's 16 places: it is told so, the
 /// library counts it, and the library ends though sixteen transfers stay in flight at a device that says no more.
 const CUT_SHORT: Scene = Scene {
-    line: "cut short: a callback whose next round finds no place is told so",
+    name: "cut short: a callback whose next round finds no place",
     sizes: &[1],
     stops: &[NOWHERE],
     threads: &[&[
@@ -133,15 +120,14 @@ const CUT_SHORT: Scene = Scene {
         GO_ON,
         Act::Await(Event::Said(Mark::CutShort)),
     ]],
-    answers: None,
-    endings: Some(&["h1 called 0 ep 81 round 0 COMPLETED 1 data 01\n"]),
-    cuts: 1,
+    answers: Answers::All,
+    callbacks: Look::Told,
 };
 
 /// A packet that is too long halts its endpoint, and the controller's worker has nothing to do. Then an event is
 /// handled, of the transfer or of one of the two orders that set the endpoint going again: it wakes that worker.
 const EVENTS_AFTER_REST: Scene = Scene {
-    line: "events after rest: each wakes a worker that has parked, and the endpoint goes on",
+    name: "events after rest: each comes when the controller's worker has parked",
     sizes: &[8, 8],
     stops: &[
         Stop(WorkerStep::Deliver, 1),
@@ -158,18 +144,14 @@ const EVENTS_AFTER_REST: Scene = Scene {
         GO_ON,
         CLOSE_IN_TIME,
     ]],
-    answers: Some("done\ndone\nnumber 0\nnumber 1\ndone\n"),
-    endings: Some(&[
-        "h1 called 0 ep 81 round 0 OVERFLOW 0 data -\n\
-        h1 called 1 ep 81 round 0 COMPLETED 8 data 090a0b0c0d0e0f10\n",
-    ]),
-    cuts: 0,
+    answers: Answers::All,
+    callbacks: Look::Told,
 };
 
 /// A thread looks and finds nothing to do; then another submits a transfer, and no worker touches it; then the first
 /// parks: it is woken.
 const LOOK_THEN_PARK: Scene = Scene {
-    line: "look then park: a submission in between wakes",
+    name: "look then park: a submission in between",
     sizes: &[8],
     stops: &[Stop(WorkerStep::Serve, 1)],
     threads: &[
@@ -189,9 +171,8 @@ const LOOK_THEN_PARK: Scene = Scene {
             Act::Rescue,
         ],
     ],
-    answers: None,
-    endings: Some(&["h1 called 0 ep 81 round 0 COMPLETED 8 data 0102030405060708\n"]),
-    cuts: 0,
+    answers: Answers::All,
+    callbacks: Look::Told,
 };
 
 /// How many transfers are submitted one after the other.
@@ -200,13 +181,12 @@ const ROUNDS: u64 = 1_000;
 /// A thousand transfers, each submitted once the one before was called back: as the workers come to rest, or while they
 /// do. A transfer that isn't called back in time is an error of the thread.
 const EACH_WAKES: Scene = Scene {
-    line: "each wakes: 1000 transfers, each after the last was called back",
+    name: "each wakes: transfers, each after the last was called back",
     sizes: &[8; ROUNDS as usize],
     stops: &[NOWHERE],
     threads: &[&[OPEN, CLAIM, Act::Stream(ROUNDS, 1), CLOSE_IN_TIME]],
-    answers: Some("done\ndone\ndone\n"),
-    endings: None,
-    cuts: 0,
+    answers: Answers::All,
+    callbacks: Look::Count,
 };
 
 /// All of them.

@@ -38,16 +38,15 @@ fn counting(alloc: Global, looks: Arc<AtomicU64>) -> Result<Setup<Counted>> {
     }
 }
 
-/// The workers don't look again and again while a transfer waits for a device that isn't ready.
-pub fn idle_workers_park<R: Threads + Wait + Sync>(rt: &R, alloc: Global) -> Result<()> {
+/// Plays the scene, and prints what is seen: the workers don't look again and again while a transfer waits for a device that isn't
+/// ready.
+pub fn play_idle<R: Threads + Wait + Sync + Print>(rt: &R, alloc: Global) -> Result<()> {
     let looks = Arc::new(alloc, AtomicU64::new(0))?;
     let setup = counting(alloc, looks.clone()?)?;
     let reader = Reader::new(1, 0, 0)?;
     let seen = play(rt, alloc, setup, NOWHERE, 1, &[reader], &[&WAITING])?;
-    seen.is_answered(alloc, "done\ndone\nnumber 0\nnumber 1\n")?;
-    let looks = looks.load(Ordering::SeqCst);
-    if looks > FEW_LOOKS {
-        return Err(anyhow!("the workers looked {looks} times"));
-    }
+    let are_few = looks.load(Ordering::SeqCst) <= FEW_LOOKS;
+    println!(rt; "idle workers park: answered {}", seen.answers(alloc)?)?;
+    println!(rt; "they looked {FEW_LOOKS} times at most: {are_few}")?;
     Ok(())
 }

@@ -1,6 +1,5 @@
-//! The library's scenes: calls by its one caller, whose entries are printed, and threads, of whom a line says what was seen; a
-//! scene that isn't as it has to be ends the program with an error. A thread waits a bounded number of turns at most, so that a
-//! hang is a failure, and not a wait.
+//! The library's scenes: calls by its one caller, whose entries are printed, and threads, of whom what was seen is printed, as far as it
+//! is the same however they run. A thread waits a bounded number of turns at most, so that a hang is a failure, and not a wait.
 //!
 //! With the word `refusals` the scenes of one caller alone are played. What they print is the same whichever allocation was
 //! refused: a call is made again where memory is refused, and so is the whole scene where it is refused before the first call or
@@ -46,6 +45,7 @@ mod turnstile;
 use crate::call::Call;
 use crate::calls::{CALLS, FOUR_SIZES, ROWS, TWO_SIZES};
 use crate::life::{Left, play};
+use crate::replay::Compared;
 use anyhow::{Result, anyhow};
 use std::alloc::Global;
 use std::env;
@@ -115,7 +115,7 @@ fn play_refusals<R: Wait + Print>(rt: &R, alloc: Global) -> Result<()> {
     print_left(rt, &played(rt, alloc, &FOUR_SIZES, &ROWS)?)
 }
 
-/// Plays the scenes of threads. Each prints its line.
+/// Plays the scenes of threads. Each prints what it saw.
 fn play_threads<K: Clock, R: Threads + Wait + Sync + Print>(
     rt: &R,
     alloc: Global,
@@ -123,14 +123,14 @@ fn play_threads<K: Clock, R: Threads + Wait + Sync + Print>(
 ) -> Result<()> {
     for scene in gates::SCENES {
         scene.play(rt, alloc)?;
-        println!(rt; "{}", scene.line)?;
     }
-    idle::idle_workers_park(rt, alloc)?;
-    println!(rt; "idle workers park: they look a few times, and wait")?;
-    bursts::rows_have_a_bound(rt, alloc)?;
-    println!(rt; "bursts: a call waits behind 64 packets of another transfer at most")?;
-    measures::many_callers(rt, alloc, clock)?;
-    println!(rt; "many callers: 8 threads, 400 transfers, each handle as if it were alone")?;
+    idle::play_idle(rt, alloc)?;
+    let packets = bursts::packets_before_a_call(rt, alloc)?;
+    println!(rt; "bursts: a call waits behind {packets} packets of another transfer")?;
+    let Compared { handles, callbacks } = measures::many_callers(rt, alloc, clock)?;
+    println!(rt;
+        "many callers: {callbacks} callbacks of {handles} handles, each as if it were alone"
+    )?;
     Ok(())
 }
 

@@ -1,7 +1,7 @@
 //! What is streamed, and what is told of it. The numbers of a line are what bench/ reads.
 
 use crate::load::{Load, stream};
-use crate::replay::are_alone;
+use crate::replay::{Compared, are_alone};
 use anyhow::Result;
 use std::alloc::Global;
 use std::sync::Wait;
@@ -49,37 +49,43 @@ const IDLE: Load = Load {
     ..DENSE
 };
 
-/// A load, after which each handle was told what it is told alone: how many places the journal has, and how many milliseconds it
-/// took.
+/// What is seen of a load behind it.
+#[derive(Clone, Copy)]
+struct Outcome {
+    /// How many handles were told what they are told alone, and of how many callbacks.
+    alone: Compared,
+    /// How many places the journal has.
+    places: usize,
+    /// How many milliseconds it took.
+    ms: u128,
+}
+
+/// A load, after which each handle was told what it is told alone.
 fn replayed<K: Clock, R: Threads + Wait + Sync>(
     rt: &R,
     alloc: Global,
     clock: &K,
     load: &Load,
-) -> Result<(usize, u128)> {
+) -> Result<Outcome> {
     let (took, journal) = stream::<Journal, K, R>(rt, alloc, clock, load)?;
-    let transfers = load.each.saturating_mul(load.rounds);
     let sizes = load.sizes(alloc)?;
     let places = journal.places(alloc)?;
-    are_alone(
-        alloc,
-        places.as_slice(),
-        sizes.as_slice(),
-        load.threads,
-        transfers,
-    )?;
-    Ok((places.len(), took.as_millis()))
+    let alone = are_alone(alloc, places.as_slice(), sizes.as_slice(), load.threads)?;
+    Ok(Outcome {
+        alone,
+        places: places.len(),
+        ms: took.as_millis(),
+    })
 }
 
-/// Four devices, eight threads with a handle and an interface each, and fifty transfers of each. Each is called back, and each handle
-/// is told what it is told alone.
+/// Four devices, eight threads with a handle and an interface each, and fifty transfers of each: how many handles were told what
+/// they are told alone, and of how many callbacks.
 pub fn many_callers<K: Clock, R: Threads + Wait + Sync>(
     rt: &R,
     alloc: Global,
     clock: &K,
-) -> Result<()> {
-    replayed(rt, alloc, clock, &SCENE)?;
-    Ok(())
+) -> Result<Compared> {
+    Ok(replayed(rt, alloc, clock, &SCENE)?.alone)
 }
 
 /// Many of them: how many places the journal has, and the milliseconds.
@@ -88,8 +94,11 @@ pub fn soak<K: Clock, R: Threads + Wait + Sync>(
     alloc: Global,
     clock: &K,
 ) -> Result<String> {
-    let (places, ms) = replayed(rt, alloc, clock, &SOAK)?;
-    Ok(format!(in alloc; "soak: {places} places, {ms} ms, each handle as if it were alone")?)
+    let Outcome { alone, places, ms } = replayed(rt, alloc, clock, &SOAK)?;
+    let Compared { handles, callbacks } = alone;
+    Ok(format!(in alloc;
+        "soak: {places} places, {ms} ms, {callbacks} callbacks, {handles} handles as if each were alone"
+    )?)
 }
 
 /// The nanoseconds of one of 100,000 transfers.

@@ -73,25 +73,38 @@ fn told_alone(alloc: Global, sizes: &[u16], steps: &[Step], h: Name) -> Result<S
     Ok(alone(alloc, setup, steps, h)?.alone)
 }
 
-/// An error where one of so many handles was told something else than alone, over devices with these packets, or not of so many
-/// callbacks in order.
-pub fn are_alone(
-    alloc: Global,
-    places: &[Place],
-    sizes: &[u16],
-    handles: u8,
-    transfers: u64,
-) -> Result<()> {
+/// How many handles were told what they are told alone, and how many callbacks they have.
+#[derive(Clone, Copy, Default)]
+pub struct Compared {
+    /// The handles.
+    pub handles: u64,
+    /// Their callbacks.
+    pub callbacks: u64,
+}
+
+impl Compared {
+    /// With another handle, which has so many callbacks.
+    fn add(&mut self, callbacks: u64) {
+        self.handles = self.handles.saturating_add(1);
+        self.callbacks = self.callbacks.saturating_add(callbacks);
+    }
+}
+
+/// How many of so many handles were told what they are told alone, over devices with these packets, and of how many callbacks. An
+/// error where one was told something else, or of callbacks out of their order.
+pub fn are_alone(alloc: Global, places: &[Place], sizes: &[u16], handles: u8) -> Result<Compared> {
     let steps = steps_of(alloc, places)?;
+    let mut all = Compared::default();
     for h in 0..handles {
         let Some(h) = Name::new(h) else {
             return Err(anyhow!("no such name"));
         };
         let alone = told_alone(alloc, sizes, steps.as_slice(), h)?;
         are_same(alloc, places, h, alone.as_slice())?;
-        if callbacks_in(alone.as_slice()) != Some(transfers) {
-            return Err(anyhow!("a handle has other callbacks"));
+        match callbacks_in(alone.as_slice()) {
+            Some(callbacks) => all.add(callbacks),
+            None => return Err(anyhow!("a handle has callbacks out of their order")),
         }
     }
-    Ok(())
+    Ok(all)
 }

@@ -1,4 +1,4 @@
-//! A scene as data: what threads of one handle do over one device, and what they are to see.
+//! A scene as data: what threads of one handle do over one device, and what is looked at of what they see.
 
 use crate::acts::Act;
 use crate::stage::{Seen, play};
@@ -9,30 +9,50 @@ use std::alloc::Global;
 use std::sync::Wait;
 use std::thread::Threads;
 
+/// What is looked at of what the first thread of a scene is answered.
+#[derive(Clone, Copy)]
+pub enum Answers {
+    /// Each, which is always the same.
+    All,
+    /// The last; one before it depends on how threads happen to run.
+    Last,
+}
+
+/// What is looked at of a scene's callbacks.
+#[derive(Clone, Copy)]
+pub enum Look {
+    /// What each is told, which is always the same.
+    Told,
+    /// Whether they are told one of these, by how threads happen to run.
+    OneOf(&'static [&'static str]),
+    /// How many they are, and whether they come in order.
+    Count,
+}
+
 /// A scene.
 #[derive(Clone, Copy)]
 pub struct Scene {
-    /// What is printed once it was played.
-    pub line: &'static str,
+    /// What it is called.
+    pub name: &'static str,
     /// The sizes of the packets with which the device answers.
     pub sizes: &'static [u16],
     /// Where workers are held: it is played once for each.
     pub stops: &'static [Stop],
     /// What each thread does, of one or two.
     pub threads: &'static [&'static [Act]],
-    /// What the first of them is answered, if that is always the same.
-    pub answers: Option<&'static str>,
-    /// What callbacks may be told, if that is looked at.
-    pub endings: Option<&'static [&'static str]>,
-    /// How many callbacks end early.
-    pub cuts: u64,
+    /// What is looked at of what the first of them is answered.
+    pub answers: Answers,
+    /// What is looked at of its callbacks.
+    pub callbacks: Look,
 }
 
 impl Scene {
-    /// Plays it once for each of its stops. An error where it isn't as it has to be.
-    pub fn play<R: Threads + Wait + Sync>(&self, rt: &R, alloc: Global) -> Result<()> {
+    /// Plays it once for each of its stops, and prints what is seen each time. An error where a thread waited in vain.
+    pub fn play<R: Threads + Wait + Sync + Print>(&self, rt: &R, alloc: Global) -> Result<()> {
+        println!(rt; "{}", self.name)?;
         for stop in self.stops {
-            self.is_right(alloc, &self.play_once(rt, alloc, *stop)?)?;
+            let seen = self.play_once(rt, alloc, *stop)?;
+            self.show(rt, alloc, &seen)?;
         }
         Ok(())
     }
@@ -49,15 +69,35 @@ impl Scene {
         play(rt, alloc, setup, stop, 1, &[reader; 2], self.threads)
     }
 
-    /// An error where something else was seen than what has to be.
-    fn is_right(&self, alloc: Global, seen: &Seen) -> Result<()> {
-        seen.is_cut(self.cuts)?;
-        if let Some(endings) = self.endings {
-            seen.is_told(alloc, endings)?;
-        }
+    /// Prints what was seen once.
+    fn show<R: Print>(&self, rt: &R, alloc: Global, seen: &Seen) -> Result<()> {
         match self.answers {
-            Some(answers) => seen.is_answered(alloc, answers),
-            None => Ok(()),
+            Answers::All => println!(rt; "answered {}", seen.answers(alloc)?)?,
+            Answers::Last => println!(rt; "at last answered {}", seen.last_answer(alloc)?)?,
         }
+        self.show_callbacks(rt, alloc, seen)?;
+        let Seen {
+            cuts,
+            lacked_memory,
+            ..
+        } = seen;
+        println!(rt; "{cuts} cut short, memory refused: {lacked_memory}")?;
+        Ok(())
+    }
+
+    /// Prints what was seen of its callbacks.
+    fn show_callbacks<R: Print>(&self, rt: &R, alloc: Global, seen: &Seen) -> Result<()> {
+        match self.callbacks {
+            Look::Told => print!(rt; "{}", seen.told(alloc)?)?,
+            Look::OneOf(endings) => {
+                let is_one = seen.is_told_one_of(alloc, endings)?;
+                println!(rt; "told one of {} endings: {is_one}", endings.len())?;
+            }
+            Look::Count => {
+                let (count, is_in_order) = seen.callbacks();
+                println!(rt; "{count} callbacks, in order: {is_in_order}")?;
+            }
+        }
+        Ok(())
     }
 }

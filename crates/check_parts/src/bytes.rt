@@ -2,7 +2,7 @@
 //! what is done, and what is told and found behind it.
 
 mod device;
-mod found;
+pub mod found;
 mod host;
 mod long;
 mod pattern;
@@ -11,13 +11,16 @@ mod short;
 mod standing;
 
 use anyhow::Result;
-use scene::Scene;
+use scene::{Scene, Seen};
 
-/// Plays a scene, and prints its title where all was as it says.
+/// Plays a scene, and prints how many steps it had and what was found.
 fn show(rt: &HostRuntime, scene: &Scene) -> Result<()> {
-    scene::play(rt.alloc(), scene)?;
+    let Seen { steps, looks } = scene::play(rt.alloc(), scene)?;
     let title = scene.title;
-    println!(rt; "{title}")?;
+    println!(rt; "{title}; {steps} steps")?;
+    for look in &looks {
+        println!(rt; "{look}")?;
+    }
     Ok(())
 }
 

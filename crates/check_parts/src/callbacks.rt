@@ -5,24 +5,47 @@ ghost use Rattle.usb_core.specs.Callbacks.{Fits};
 ghost use Rattle.usb_model.specs.World.Plans.{verdict_of};
 
 use crate::completions::completed;
-use crate::expect::{expect, present};
+use crate::expect::present;
 use anyhow::Result;
 use std::alloc::Global;
+use std::fmt;
 use std::sync::Arc;
 use std::sync::atomic::{AtomicU64, Ordering};
 use usb_core::{Callback, Due, End, Once, Repeat, StoredCallback, Told};
 use usb_model::{Refused, Returned, Rule, StatusSet, Verdict};
 
+/// What a callback answered in a round, printed as `round 1 Stop, comes back`.
+#[derive(Drop)]
+struct Round {
+    number: u64,
+    verdict: Verdict,
+    is_back: bool,
+}
+
+impl fmt::Display for Round {
+    fn fmt<W: fmt::Write>(&self, f: &mut fmt::Formatter<W>) -> fmt::Result {
+        let Round {
+            number,
+            verdict,
+            is_back,
+        } = self;
+        let end = if *is_back { "comes back" } else { "is used up" };
+        write!(f, "round {number} {verdict:?}, {end}")
+    }
+}
+
 /// Plays the scenes of callbacks.
 pub fn play<P: Print>(rt: &P, alloc: Global) -> Result<()> {
-    repeating(alloc)?;
-    println!(rt; "a repeating callback: it answers twice, and comes back each time")?;
-    under_no_rule(alloc)?;
-    println!(rt; "a callback under no rule: it stops at the last round")?;
-    called_once(alloc)?;
-    println!(rt; "a callback that is called once: it adds once, and is used up")?;
-    told_of_its_end(alloc)?;
-    println!(rt; "a callback that isn't called again: it is told why")?;
+    let (first, second) = repeating(alloc)?;
+    println!(rt; "a repeating callback: {first}; {second}")?;
+    let (first, second) = under_no_rule(alloc)?;
+    println!(rt; "a callback under no rule: {first}; {second}")?;
+    let (round, added) = called_once(alloc)?;
+    println!(rt; "a callback that is called once: {round}; it added {added}")?;
+    for end in [End::ByVerdict, End::Refused(Refused::Busy), End::NoMemory] {
+        let told = name_of(told_of(alloc, end)?);
+        println!(rt; "a callback that isn't called again: it is told of {told}")?;
+    }
     Ok(())
 }
 
@@ -42,40 +65,34 @@ fn answer<C: Callback>(callback: C, due: Due) -> (Verdict, Option<C>)
     callback.call(due)
 }
 
-/// A callback goes on.
-fn goes_on(verdict: &Verdict) -> Result<()> {
-    expect(
-        matches!(verdict, Verdict::Again),
-        "a callback that goes on",
-        "its verdict is another",
-    )
+/// What a callback answers to what is due, and the callback, if it comes back.
+fn answered<C: Callback>(callback: C, due: Due) -> (Round, Option<C>) {
+    let number = due.round;
+    let (verdict, back) = answer(callback, due);
+    let is_back = back.is_some();
+    let round = Round {
+        number,
+        verdict,
+        is_back,
+    };
+    (round, back)
 }
 
-/// A callback stops.
-fn stops(verdict: &Verdict) -> Result<()> {
-    expect(
-        matches!(verdict, Verdict::Stop),
-        "a callback that stops",
-        "its verdict is another",
-    )
-}
-
-/// A repeating callback goes on at the first of these rounds, stops at the second, and comes back each time.
-fn goes_on_once<C: Callback>(alloc: Global, callback: C, rounds: [u64; 2]) -> Result<()> {
+/// What a repeating callback answers in each of these rounds. An error where it doesn't come back from the first.
+fn answered_twice<C: Callback>(
+    alloc: Global,
+    callback: C,
+    rounds: [u64; 2],
+) -> Result<(Round, Round)> {
     let [earlier, later] = rounds;
-    let (first, again) = answer(callback, completed(alloc, earlier)?);
-    goes_on(&first)?;
-    let (second, again) = answer(
-        present(again, "callback that comes back")?,
-        completed(alloc, later)?,
-    );
-    stops(&second)?;
-    present(again, "callback that comes back")?;
-    Ok(())
+    let (first, back) = answered(callback, completed(alloc, earlier)?);
+    let back = present(back, "callback that comes back")?;
+    let (second, _back) = answered(back, completed(alloc, later)?);
+    Ok((first, second))
 }
 
 /// A repeating callback answers twice, as its rule says.
-fn repeating(alloc: Global) -> Result<()> {
+fn repeating(alloc: Global) -> Result<(Round, Round)> {
     let rule = Rule::Again {
         on: StatusSet::COMPLETED,
         rounds: 1,
@@ -87,11 +104,11 @@ fn repeating(alloc: Global) -> Result<()> {
         { rule.verdict(returned.status, returned.round) },
     )?;
     let callback = StoredCallback::repeat(rule, code);
-    goes_on_once(alloc, callback, [0, 1])
+    answered_twice(alloc, callback, [0, 1])
 }
 
 /// A callback under no rule stops at the last round.
-fn under_no_rule(alloc: Global) -> Result<()> {
+fn under_no_rule(alloc: Global) -> Result<(Round, Round)> {
     let code: Repeat = Box::new(alloc, |returned: &Returned| -> Verdict {
         if returned.round < 2 {
             Verdict::Again
@@ -100,30 +117,19 @@ fn under_no_rule(alloc: Global) -> Result<()> {
         }
     })?;
     let callback = StoredCallback::repeat(Rule::Free, code);
-    goes_on_once(alloc, callback, [1, 2])
+    answered_twice(alloc, callback, [1, 2])
 }
 
-/// A callback that is called once adds the number of its transfer, and is used up.
-fn called_once(alloc: Global) -> Result<()> {
-    let calls = Arc::new(alloc, AtomicU64::new(0))?;
-    let counted = calls.clone()?;
+/// A callback that is called once adds the number of its transfer, and is used up: what it answers, and what it added.
+fn called_once(alloc: Global) -> Result<(Round, u64)> {
+    let sum = Arc::new(alloc, AtomicU64::new(0))?;
+    let counted = sum.clone()?;
     let code: Once = Box::new(alloc, move |returned: Returned| {
         let _before = counted.fetch_add(returned.n, Ordering::SeqCst);
     })?;
     let callback = crosses(StoredCallback::once(code));
-    let (verdict, again) = answer(callback, completed(alloc, 1)?);
-    stops(&verdict)?;
-    expect(
-        again.is_none(),
-        "a callback that is called once",
-        "it comes back",
-    )?;
-    let count = calls.load(Ordering::SeqCst);
-    expect(
-        count == 1,
-        "a callback that is called once",
-        "it adds another number",
-    )
+    let (round, _back) = answered(callback, completed(alloc, 1)?);
+    Ok((round, sum.load(Ordering::SeqCst)))
 }
 
 /// What a callback is told of its end, as a number.
@@ -136,8 +142,20 @@ fn number_of(end: End) -> u64 {
     }
 }
 
-/// A callback that isn't called again is told this end, and no other.
-fn is_told(alloc: Global, end: End) -> Result<()> {
+/// What a callback was told of that has this number.
+fn name_of(number: u64) -> &'static str {
+    match number {
+        0 => "nothing",
+        1 => "its verdict",
+        2 => "a refusal as busy",
+        3 => "another refusal",
+        4 => "no memory",
+        _ => "several ends",
+    }
+}
+
+/// The number of what a callback is told that isn't called again, by this end; 0 where it is told nothing.
+fn told_of(alloc: Global, end: End) -> Result<u64> {
     let heard = Arc::new(alloc, AtomicU64::new(0))?;
     let hearing = heard.clone()?;
     let code: Repeat = Box::new(alloc, |_: &Returned| -> Verdict { Verdict::Again })?;
@@ -145,19 +163,7 @@ fn is_told(alloc: Global, end: End) -> Result<()> {
         let _before = hearing.fetch_add(number_of(end), Ordering::SeqCst);
     })?;
     let callback = crosses(StoredCallback::repeat(Rule::Free, code).telling(told));
-    let (verdict, again) = answer(callback, completed(alloc, 0)?);
-    goes_on(&verdict)?;
-    present(again, "callback that comes back")?.ended(end);
-    expect(
-        heard.load(Ordering::SeqCst) == number_of(end),
-        "a callback that isn't called again",
-        "it is told something else",
-    )
-}
-
-/// Each end is told.
-fn told_of_its_end(alloc: Global) -> Result<()> {
-    is_told(alloc, End::ByVerdict)?;
-    is_told(alloc, End::Refused(Refused::Busy))?;
-    is_told(alloc, End::NoMemory)
+    let (_round, back) = answered(callback, completed(alloc, 0)?);
+    present(back, "callback that comes back")?.ended(end);
+    Ok(heard.load(Ordering::SeqCst))
 }

@@ -5,7 +5,7 @@ use crate::expect::present;
 use anyhow::Result;
 use bitflags::Flags as _;
 use std::alloc::{AllocError, Global};
-use trace_capture::{CaptureRecorder, append_all, file_header};
+use trace_capture::{CaptureEvent, CaptureRecorder, append_all, file_header};
 use trace_recorded::{
     Endianness, EventHeader, RecordedEnd, RecordedEvent, RecordedTransfer, answers_of, event_of,
 };
@@ -24,14 +24,31 @@ struct Cast {
     dev: DeviceNo,
 }
 
+/// The records of a run.
+#[derive(Drop)]
+struct Records {
+    /// How many they are.
+    count: usize,
+    /// Their bytes.
+    bytes: Vec<u8>,
+}
+
 /// Plays the scene of captures.
 pub fn play<P: Print>(rt: &P, alloc: Global) -> Result<()> {
-    let records = records(alloc)?;
-    println!(rt; "the capture of a cancelled read: the file's header, and eight records")?;
-    print_bytes(rt, alloc, &file_header())?;
-    print_bytes(rt, alloc, records.as_slice())?;
-    println!(rt; "the callback of that capture: it is read, and its transfer was one answer")?;
-    let answers = answers(alloc, last_packet(records.as_slice()))?;
+    let header = file_header();
+    let Records { count, bytes } = record_all(alloc)?;
+    println!(rt;
+        "the capture of a cancelled read: a header of {} bytes, and {count} records of {}",
+        header.len(),
+        bytes.len()
+    )?;
+    print_bytes(rt, alloc, &header)?;
+    print_bytes(rt, alloc, bytes.as_slice())?;
+    let answers = answers(alloc, last_packet(bytes.as_slice()))?;
+    println!(rt;
+        "the callback of that capture: its transfer had {} answer",
+        answers.len()
+    )?;
     print_answers(rt, alloc, answers.as_slice())
 }
 
@@ -97,19 +114,22 @@ fn print_bytes<P: Print>(rt: &P, alloc: Global, bytes: &[u8]) -> Result<()> {
 }
 
 /// The records of the run: line 1 has its device, and its steps are the lines 3 to 13.
-fn records(alloc: Global) -> Result<Vec<u8>> {
+fn record_all(alloc: Global) -> Result<Records> {
     let cast = Cast {
         h: present(Name::new(1), "name 1")?,
         dev: present(DeviceNo::new(0), "device 0")?,
     };
-    let mut out = Vec::new(alloc);
     let mut recorder = CaptureRecorder::new(alloc);
     let events = recorder.device(1, cast.dev, &TWO_INTERFACES)?;
-    append_all(events.as_slice(), &mut out)?;
+    let mut records = Records {
+        count: 0,
+        bytes: Vec::new(alloc),
+    };
+    records.append(events.as_slice())?;
     for line in 3..14_u64 {
-        record(alloc, &mut recorder, &cast, line, &mut out)?;
+        record(alloc, &mut recorder, &cast, line, &mut records)?;
     }
-    Ok(out)
+    Ok(records)
 }
 
 /// Records the step of a line.
@@ -118,12 +138,21 @@ fn record(
     recorder: &mut CaptureRecorder,
     cast: &Cast,
     line: u64,
-    out: &mut Vec<u8>,
+    records: &mut Records,
 ) -> Result<(), AllocError> {
     let step = step(cast, line);
     let entry = entry(alloc, cast, line)?;
     let events = recorder.entry(line, &step, &entry)?;
-    append_all(events.as_slice(), out)
+    records.append(events.as_slice())
+}
+
+impl Records {
+    /// With those of these events behind them.
+    fn append(&mut self, events: &[CaptureEvent]) -> Result<(), AllocError> {
+        append_all(events, &mut self.bytes)?;
+        self.count = self.count.saturating_add(events.len());
+        Ok(())
+    }
 }
 
 /// The step of a line.

@@ -1,48 +1,104 @@
 //! Transfers that a core completes: nobody else makes what is due to a callback.
+//!
+//! Each method makes one call of the core and has no contract, so that whoever makes calls in a row doesn't have the promises of all of
+//! them before it.
 
 use anyhow::{Result, anyhow};
 use example_devices::{Reader, devices};
 use std::alloc::Global;
 use usb_core::{Core, Due};
 use usb_device::TableDevice;
-use usb_model::Step;
+use usb_model::{Refused, Step};
 
 /// How many bytes each read asks for, and the device sends.
 const BYTES: u16 = 8;
 
-/// A core whose transfers keep nothing.
-type Bare = Core<(), TableDevice>;
+/// A core whose transfers keep nothing, and the handle that reads from its device.
+#[derive(Drop)]
+struct Bench {
+    core: Core<(), TableDevice>,
+    reader: Reader,
+}
 
 /// What is due to a callback whose transfer completed and was submitted so often before, three times at most. It has that number.
 pub fn completed(alloc: Global, round: u64) -> Result<Due> {
-    let mut core = Core::new(alloc, devices(alloc, 1, BYTES, &[BYTES; 4])?)?;
-    let reader = Reader::new(0, 0, 0)?;
-    submit(&mut core, &reader)?;
-    let mut due = next(&mut core, &reader)?;
+    let mut bench = Bench::new(alloc)?;
+    bench.begin()?;
+    let mut due = bench.next()?;
     for _ in 0..round {
-        let again = core.again(reader.h, due.n, ());
-        again.map_err(|unaccepted| unaccepted.why)?;
-        due = next(&mut core, &reader)?;
+        bench.again(due.n)?;
+        due = bench.next()?;
     }
     Ok(due)
 }
 
-/// The device is opened, its interface claimed, and a read submitted.
-fn submit(core: &mut Bare, reader: &Reader) -> Result<()> {
-    let Reader { h, dev, i, .. } = *reader;
-    let _opened = core.call(Step::Open { h, dev });
-    let _claimed = core.call(Step::Claim { h, i });
-    let submitted = core.submit(h, reader.read(u32::from(BYTES), 0), ());
-    submitted.map_err(|unaccepted| unaccepted.why)?;
-    Ok(())
-}
+impl Bench {
+    /// A device with a packet for each round, which nobody has opened.
+    fn new(alloc: Global) -> Result<Bench> {
+        Ok(Bench {
+            core: Core::new(alloc, devices(alloc, 1, BYTES, &[BYTES; 4])?)?,
+            reader: Reader::new(0, 0, 0)?,
+        })
+    }
 
-/// The device answers a packet, and the result goes out.
-fn next(core: &mut Bare, reader: &Reader) -> Result<Due> {
-    let _served = core.serve(reader.dev, reader.ep);
-    let _handled = core.deliver();
-    match core.take() {
-        Ok(Some(taken)) => Ok(taken.returned),
-        _ => Err(anyhow!("no result waits")),
+    /// A read is submitted by the handle that has the device's interface.
+    fn begin(&mut self) -> Result<(), Refused> {
+        self.open();
+        self.claim();
+        self.submit()
+    }
+
+    /// The device answers a packet, and the result goes out.
+    fn next(&mut self) -> Result<Due> {
+        self.serve();
+        self.deliver();
+        self.take()
+    }
+
+    /// The handle opens the device.
+    fn open(&mut self) {
+        let Reader { h, dev, .. } = self.reader;
+        let _opened = self.core.call(Step::Open { h, dev });
+    }
+
+    /// It claims the interface.
+    fn claim(&mut self) {
+        let Reader { h, i, .. } = self.reader;
+        let _claimed = self.core.call(Step::Claim { h, i });
+    }
+
+    /// It submits a read.
+    fn submit(&mut self) -> Result<(), Refused> {
+        let request = self.reader.read(u32::from(BYTES), 0);
+        match self.core.submit(self.reader.h, request, ()) {
+            Ok(_) => Ok(()),
+            Err(unaccepted) => Err(unaccepted.why),
+        }
+    }
+
+    /// The device answers a packet.
+    fn serve(&mut self) {
+        let _served = self.core.serve(self.reader.dev, self.reader.ep);
+    }
+
+    /// The oldest event is handled.
+    fn deliver(&mut self) {
+        let _handled = self.core.deliver();
+    }
+
+    /// The oldest result goes out.
+    fn take(&mut self) -> Result<Due> {
+        match self.core.take() {
+            Ok(Some(taken)) => Ok(taken.returned),
+            _ => Err(anyhow!("no result waits")),
+        }
+    }
+
+    /// The read of a callback is submitted once more.
+    fn again(&mut self, n: u64) -> Result<(), Refused> {
+        match self.core.again(self.reader.h, n, ()) {
+            Ok(_) => Ok(()),
+            Err(unaccepted) => Err(unaccepted.why),
+        }
     }
 }

@@ -1,20 +1,10 @@
 //! Configurations as they are read from their bytes (USB 2.0, 9.6).
 
 use crate::changed::{TWO_INTERFACES, changed};
-use crate::expect::expect;
 use anyhow::Result;
+use std::fmt;
 use usb_descriptors::{Config, read_config};
 use usb_model::{EndpointInfo, EpAddr, Kind};
-
-/// An endpoint whose packets have 8 bytes: its address, its interface and its kind.
-type Endpoint = (u8, u8, Kind);
-
-/// The endpoints of `TWO_INTERFACES`.
-const THREE_ENDPOINTS: [Endpoint; 3] = [
-    (0x81, 0, Kind::Bulk),
-    (0x02, 0, Kind::Bulk),
-    (0x83, 1, Kind::Interrupt),
-];
 
 /// `TWO_INTERFACES` with a descriptor of type 36 behind that of interface 0.
 const WITH_ANOTHER_TYPE: [u8; 53] = [
@@ -40,108 +30,96 @@ const LONGER_DESCRIPTORS: [u8; 30] = [
     0x00, 0x00, 0x00, 0x00, 0x00, 0x09, 0x05, 0x81, 0x03, 0x08, 0x00, 0x0a, 0x00, 0x00,
 ];
 
+/// The addresses that are asked for: those of the endpoints, another, and one with bits 6 to 4 set.
+const ASKED: [u8; 5] = [0x81, 0x02, 0x83, 0x82, 0x93];
+
+/// What is found at an address, printed as `81 Bulk 8 of 0`: the kind, the packet size and the interface.
+#[derive(Clone, Copy)]
+struct Found {
+    address: EpAddr,
+    endpoint: Option<(Kind, u16)>,
+    interface: Option<u8>,
+}
+
+impl fmt::Display for Found {
+    fn fmt<W: fmt::Write>(&self, f: &mut fmt::Formatter<W>) -> fmt::Result {
+        let address = self.address;
+        write!(f, "{address}")?;
+        match self.endpoint {
+            Some((kind, size)) => write!(f, " {kind:?} {size}")?,
+            None => f.write_str(" nothing")?,
+        }
+        match self.interface {
+            Some(number) => write!(f, " of {number}"),
+            None => Ok(()),
+        }
+    }
+}
+
+/// A configuration's interfaces, and its endpoints in their order.
+#[derive(Clone, Copy)]
+struct Described<'a>(&'a Config);
+
+impl fmt::Display for Described<'_> {
+    fn fmt<W: fmt::Write>(&self, f: &mut fmt::Formatter<W>) -> fmt::Result {
+        f.write_str("interfaces")?;
+        for number in self.0.interfaces() {
+            let number = *number;
+            write!(f, " {number}")?;
+        }
+        for info in self.0.endpoints() {
+            let found = found_in(info);
+            write!(f, "; {found}")?;
+        }
+        Ok(())
+    }
+}
+
+/// What a configuration says of one of its endpoints.
+fn found_in(info: &EndpointInfo) -> Found {
+    Found {
+        address: info.address,
+        endpoint: Some((info.kind, info.packet_size)),
+        interface: Some(info.interface),
+    }
+}
+
+/// What a configuration has at an address.
+fn found_at(config: &Config, address: u8) -> Found {
+    let address = EpAddr::new(address);
+    Found {
+        address,
+        endpoint: config.endpoint(address),
+        interface: config.interface_of(address),
+    }
+}
+
 /// Plays the scenes of configurations.
 pub fn play<P: Print>(rt: &P) -> Result<()> {
-    two_interfaces()?;
-    endpoints_by_address()?;
-    println!(rt; "a configuration: its two interfaces with three endpoints are read")?;
-    left_out()?;
-    println!(rt; "alternate settings, and what makes a descriptor longer: they are left out")?;
+    show(rt, "a configuration", &TWO_INTERFACES)?;
+    show(rt, "with a descriptor of type 36", &WITH_ANOTHER_TYPE)?;
+    show(rt, "with the address f1", &changed(20, 0xf1))?;
+    println!(rt; "its endpoints by their addresses")?;
+    show_addresses(rt)?;
+    show(rt, "a configuration of no interface", &BARE)?;
+    show(rt, "with an alternate setting", &ALTERNATE_SETTING)?;
+    show(rt, "of longer descriptors", &LONGER_DESCRIPTORS)
+}
+
+/// Prints what bytes describe.
+fn show<P: Print>(rt: &P, name: &str, bytes: &[u8]) -> Result<()> {
+    let config = read_config(bytes)?;
+    let described = Described(&config);
+    println!(rt; "{name}: {described}")?;
     Ok(())
 }
 
-/// What is said of an endpoint.
-fn info(endpoint: Endpoint) -> EndpointInfo {
-    let (address, interface, kind) = endpoint;
-    EndpointInfo {
-        address: EpAddr::new(address),
-        interface,
-        kind,
-        packet_size: 8,
-    }
-}
-
-/// Whether these are the endpoints, in order.
-fn are(found: &[EndpointInfo], wanted: &[Endpoint]) -> bool {
-    for (endpoint, one) in found.iter().zip(wanted.iter()) {
-        if *endpoint != info(*one) {
-            return false;
-        }
-    }
-    found.len() == wanted.len()
-}
-
-/// The bytes describe these interfaces and endpoints.
-fn describes(name: &str, bytes: &[u8], interfaces: &[u8], endpoints: &[Endpoint]) -> Result<()> {
-    let config = read_config(bytes)?;
-    expect(
-        config.interfaces() == interfaces,
-        name,
-        "other interfaces are read",
-    )?;
-    expect(
-        are(config.endpoints(), endpoints),
-        name,
-        "other endpoints are read",
-    )
-}
-
-/// Two interfaces with three endpoints, also with another descriptor between, and with bits 6 to 4 set in an address.
-fn two_interfaces() -> Result<()> {
-    describes("two interfaces", &TWO_INTERFACES, &[0, 1], &THREE_ENDPOINTS)?;
-    describes(
-        "a descriptor of type 36",
-        &WITH_ANOTHER_TYPE,
-        &[0, 1],
-        &THREE_ENDPOINTS,
-    )?;
-    describes(
-        "the address f1",
-        &changed(20, 0xf1),
-        &[0, 1],
-        &THREE_ENDPOINTS,
-    )
-}
-
-/// The endpoint of an address is that of the interface, and of the kind.
-fn is_at(config: &Config, address: u8, interface: Option<u8>) -> Result<()> {
-    let found = config.interface_of(EpAddr::new(address));
-    expect(
-        found == interface,
-        "an endpoint's address",
-        "another interface has it",
-    )
-}
-
-/// The endpoint of an address has this kind and packet size.
-fn is_of(config: &Config, address: u8, endpoint: Option<(Kind, u16)>) -> Result<()> {
-    let found = config.endpoint(EpAddr::new(address));
-    expect(
-        found == endpoint,
-        "an endpoint's address",
-        "another kind is found there",
-    )
-}
-
-/// Endpoints are found by their address, and no others.
-fn endpoints_by_address() -> Result<()> {
+/// Prints what is found at each address.
+fn show_addresses<P: Print>(rt: &P) -> Result<()> {
     let config = read_config(&TWO_INTERFACES)?;
-    for (address, interface) in [(0x81, Some(0)), (0x83, Some(1)), (0x82, None)] {
-        is_at(&config, address, interface)?;
+    for address in ASKED {
+        let found = found_at(&config, address);
+        println!(rt; "{found}")?;
     }
-    is_of(&config, 0x02, Some((Kind::Bulk, 8)))?;
-    is_of(&config, 0x83, Some((Kind::Interrupt, 8)))?;
-    is_of(&config, 0x93, None)
-}
-
-/// What is left out.
-fn left_out() -> Result<()> {
-    describes("no interface", &BARE, &[], &[])?;
-    describes("an alternate setting", &ALTERNATE_SETTING, &[0], &[])?;
-    describes(
-        "longer descriptors",
-        &LONGER_DESCRIPTORS,
-        &[3],
-        &[(0x81, 3, Kind::Interrupt)],
-    )
+    Ok(())
 }

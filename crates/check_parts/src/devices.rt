@@ -1,6 +1,7 @@
 //! Devices of several types in one list of boxes.
 
-use crate::expect::expect;
+use crate::digits::Digits;
+use crate::expect::present;
 use crate::relay::Relay;
 use anyhow::{Result, anyhow};
 use std::alloc::{AllocError, Global};
@@ -13,20 +14,34 @@ const ONE_ENDPOINT: [u8; 25] = [
     9, 2, 25, 0, 1, 1, 0, 0x80, 0x32, 9, 4, 0, 0, 1, 0xff, 0, 0, 0, 7, 5, 0x81, 2, 8, 0, 0,
 ];
 
-/// The index of a device, what it answers at 81, and the packet that it sends.
-type Answer = (usize, Act, &'static [u8]);
+/// The devices that answer at 81, in turn.
+const TURNS: [usize; 3] = [1, 0, 1];
 
-/// What the devices answer, in turn.
-const ANSWERS: [Answer; 3] = [
-    (1, Act::Data(3), &[1, 2, 3]),
-    (0, Act::Data(3), &[1, 2, 3]),
-    (1, Act::Stall, &[]),
-];
+/// What a device answered.
+#[derive(Drop)]
+struct Answered {
+    /// Whether it was ready.
+    is_ready: bool,
+    /// What it said.
+    act: Act,
+    /// The packet that it appended.
+    packet: Vec<u8>,
+}
 
 /// Plays the scene of devices.
 pub fn play<P: Print>(rt: &P, alloc: Global) -> Result<()> {
-    several_types(alloc)?;
-    println!(rt; "devices of two types in one list of boxes: each answers by its own script")?;
+    println!(rt;
+        "devices of two types in one list of boxes, whether each is ready, and its answer"
+    )?;
+    for (index, answered) in TURNS.iter().zip(several_types(alloc)?.iter()) {
+        let Answered {
+            is_ready,
+            act,
+            packet,
+        } = answered;
+        let packet = Digits(packet.as_slice());
+        println!(rt; "device {index}: {is_ready} {act:?} {packet}")?;
+    }
     Ok(())
 }
 
@@ -70,50 +85,39 @@ fn byte_with_room(alloc: Global) -> Result<Buffer, AllocError> {
     Ok(Buffer::from_memory(alloc, Memory::Own(bytes)))
 }
 
-/// What a device appends to a byte at 81, where there is room for eight more.
-fn append<D: Device>(alloc: Global, device: &mut D) -> Result<(Act, Buffer)> {
+/// What a device answers at 81, where there is a byte and room for eight more.
+fn answer<D: Device>(alloc: Global, device: &mut D) -> Result<Answered> {
     let mut bytes = byte_with_room(alloc)?;
     if bytes.capacity() < 9 || bytes.len() > 1 {
         return Err(anyhow!("there is no room"));
     }
+    let is_ready = device.ready(EpAddr::new(0x81));
     let act = device.answer_in(EpAddr::new(0x81), 8, &mut bytes);
-    Ok((act, bytes))
+    let packet = present(bytes.as_slice().get(1..), "byte that was there before")?;
+    Ok(Answered {
+        is_ready,
+        act,
+        packet: Vec::from_slice(alloc, packet)?,
+    })
 }
 
-/// A device is ready at 81, and answers this.
-fn answers<D: Device>(alloc: Global, device: &mut D, wanted: Act, packet: &[u8]) -> Result<()> {
-    expect(
-        device.ready(EpAddr::new(0x81)),
-        "a device",
-        "it isn't ready",
-    )?;
-    let (act, bytes) = append(alloc, device)?;
-    expect(act == wanted, "a device", "it answers something else")?;
-    expect(
-        bytes.as_slice().get(1..) == Some(packet),
-        "a device",
-        "it sends another packet",
-    )
-}
-
-/// These devices answer at 81, in turn.
-fn scene<D: Device>(alloc: Global, devices: &mut Vec<D>) -> Result<()> {
-    for (index, act, packet) in ANSWERS {
-        if index >= devices.len() {
-            return Err(anyhow!("a device is missing"));
-        }
-        answers(alloc, &mut devices[index], act, packet)?;
+/// What these devices answer, in turn.
+fn answers<D: Device>(alloc: Global, devices: &mut Vec<D>) -> Result<Vec<Answered>> {
+    let mut answers = Vec::new(alloc);
+    for index in TURNS {
+        let device = present(devices.get_mut(index), "device")?;
+        answers.push(answer(alloc, device)?)?;
     }
-    Ok(())
+    Ok(answers)
 }
 
 /// A device with a table of scripts, and one that asks another.
-fn several_types(alloc: Global) -> Result<()> {
+fn several_types(alloc: Global) -> Result<Vec<Answered>> {
     let relay = Relay {
         device: table(alloc)?,
     };
     let mut devices = Vec::new(alloc);
     devices.push(BoxedDevice::new(Box::new(alloc, table(alloc)?)?))?;
     devices.push(BoxedDevice::new(Box::new(alloc, relay)?))?;
-    scene(alloc, &mut devices)
+    answers(alloc, &mut devices)
 }

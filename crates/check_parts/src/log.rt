@@ -4,6 +4,7 @@ ghost use Rattle.std.specs.Prelude.{ℕ, IfOk, List, [], ◌∷◌, ◌≡◌};
 
 use anyhow::Result;
 use std::alloc::{AllocError, Global};
+use std::mem::size_of;
 use usb_receipts::{Borne, Keeper, Log, Position};
 
 /// An entry: for which bearer it is, and what it says.
@@ -17,10 +18,11 @@ impl Borne for Note {
     ghost bearer = { λ note. note.bearer };
 }
 
-/// Plays the scene of the log.
+/// Plays the scene of the log. What its tokens know is proved, and can't be looked at: they have no bytes.
 pub fn play<P: Print>(rt: &P, alloc: Global) -> Result<()> {
     let (_keeper, _position) = three_entries(alloc)?;
-    println!(rt; "a log: two bearers enter three entries, and the keeper takes in two claims")?;
+    let (keeper, position) = (size_of::<Keeper<Note>>(), size_of::<Position<Note>>());
+    println!(rt; "a log: its keeper has {keeper} bytes, and a position {position}")?;
     Ok(())
 }
 

@@ -1,6 +1,6 @@
 //! Scenes of the low crates: TRBs, descriptors, devices, events, callbacks, the log and captures; and of the core, in which the bytes of
-//! its rings have to be those of the standard, also over two kinds of device in one setup. A line says what each scene saw; a scene that isn't as it has to be ends the program with
-//! an error.
+//! its rings have to be those of the standard, also over two kinds of device in one setup. Each prints what it saw, and its stdout is
+//! what the rules say, never what the program printed. An error ends the program where a scene has more to compare than it prints.
 //!
 //! # Files
 //!
@@ -13,6 +13,7 @@
 //! - `completions.rt`: what is due to a callback, of a core
 //! - `relay.rt`, `changed.rt`: a device that hands its calls on; a configuration with a byte changed
 //! - `expect.rt`: an error that says what isn't as it has to be
+//! - `digits.rt`: bytes in printed lines
 #![tactic(auto)]
 
 mod both;
@@ -23,6 +24,7 @@ mod changed;
 mod completions;
 mod configurations;
 mod devices;
+mod digits;
 mod events;
 mod expect;
 mod faults;

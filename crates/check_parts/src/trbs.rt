@@ -1,8 +1,10 @@
 //! TRBs of each kind, as bytes that are written and read (xHCI 1.2, 6.4).
 
+use crate::bytes::found::Found;
 use crate::changed::flipped;
 use crate::expect::{expect, present};
 use anyhow::Result;
+use std::fmt;
 use usb_trb::{
     EndpointId, Length, Normal, Pointer, Residual, Slot, Trb, TrbKind, Unknown, decode,
     decode_normal, encode, is_no_op,
@@ -78,14 +80,43 @@ const UNKNOWN: [([u8; 16], &str); 6] = [
     ),
 ];
 
+/// What is seen of a TRB.
+#[derive(Clone, Copy)]
+struct Written {
+    /// The bytes that it is written as.
+    bytes: [u8; 16],
+    /// Whether the same is read from them.
+    is_same: bool,
+    /// Whether a Normal TRB is.
+    is_normal: bool,
+    /// Whether they are taken for a No Op TRB.
+    is_no_op: bool,
+}
+
+/// The bytes, and behind them what is read from them.
+impl fmt::Display for Written {
+    fn fmt<W: fmt::Write>(&self, f: &mut fmt::Formatter<W>) -> fmt::Result {
+        let trb = Found::Trb(self.bytes);
+        let read = if self.is_same { "the same" } else { "another" };
+        write!(f, "{trb}, read as {read}")?;
+        if self.is_normal {
+            f.write_str(", a Normal TRB")?;
+        }
+        if self.is_no_op {
+            f.write_str(", a No Op TRB")?;
+        }
+        Ok(())
+    }
+}
+
 /// Plays the scenes of TRBs.
 pub fn play<P: Print>(rt: &P) -> Result<()> {
-    transfer_trbs()?;
-    commands()?;
-    events()?;
-    println!(rt; "a TRB of each kind: it is written as its bytes, and read from them")?;
-    unknown_bytes()?;
-    println!(rt; "bytes that no TRB is written as: they are unknown, whatever their fault")?;
+    println!(rt; "a TRB of each kind: its bytes, and what is read from them")?;
+    show_transfer_trbs(rt)?;
+    show_commands(rt)?;
+    show_events(rt)?;
+    println!(rt; "bytes that no TRB is written as, by their fault, and what is read from them")?;
+    show_unknown(rt)?;
     let (known, unknown) = flipped_bits()?;
     println!(rt;
         "a TRB of each kind, each bit flipped: {known} are TRBs, written as these bytes, and {unknown} are unknown"
@@ -123,11 +154,6 @@ fn writes(trb: &Trb, bytes: &[u8; 16]) -> bool {
     encode(trb).as_slice() == bytes.as_slice()
 }
 
-/// Whether a TRB is read from these bytes.
-fn reads(bytes: &[u8; 16], trb: &Trb) -> bool {
-    decode(bytes) == Ok(*trb)
-}
-
 /// Whether this is what is read from these bytes as a Normal TRB.
 fn reads_normal(bytes: &[u8; 16], normal: Option<Normal>) -> bool {
     decode_normal(bytes) == normal
@@ -146,109 +172,96 @@ fn normal_in(kind: &TrbKind) -> Option<Normal> {
     }
 }
 
-/// A TRB is written as these bytes, and read from them in each way.
-fn is_written(name: &str, kind: TrbKind, bytes: &[u8; 16]) -> Result<()> {
+/// Whether a TRB is read from these bytes, as each reader has it.
+fn reads(bytes: &[u8; 16], trb: &Trb) -> bool {
+    decode(bytes) == Ok(*trb) && reads_normal(bytes, normal_in(&trb.kind))
+}
+
+/// What is seen of a TRB whose cycle bit is set.
+fn seen_of(kind: TrbKind) -> Written {
     let trb = Trb { kind, cycle: true };
-    let normal = normal_in(&trb.kind);
-    expect(writes(&trb, bytes), name, "it is written as other bytes")?;
-    expect(reads(bytes, &trb), name, "its bytes are read as another")?;
-    expect(
-        reads_normal(bytes, normal),
-        name,
-        "its bytes are read as another Normal TRB",
-    )?;
-    expect(
-        tells_no_op(bytes, &trb.kind),
-        name,
-        "whether it is a No Op is told wrong",
-    )
+    let bytes = encode(&trb);
+    Written {
+        bytes,
+        is_same: reads(&bytes, &trb),
+        is_normal: decode_normal(&bytes).is_some(),
+        is_no_op: is_no_op(&bytes),
+    }
+}
+
+/// Prints what is seen of a TRB.
+fn show<P: Print>(rt: &P, name: &str, kind: TrbKind) -> Result<()> {
+    let written = seen_of(kind);
+    println!(rt; "{name}: {written}")?;
+    Ok(())
 }
 
 /// The TRBs of a transfer ring.
-fn transfer_trbs() -> Result<()> {
-    is_written(
-        "a Normal TRB",
-        TrbKind::Normal(Normal {
-            buffer: 0x1_0000_0000,
-            length: length()?,
-            short: true,
-            chain: false,
-            done: true,
-        }),
-        &NORMAL,
-    )?;
-    is_written(
-        "a Link TRB",
-        TrbKind::Link {
-            segment: pointer(0x1002_3000)?,
-            toggle: true,
-            chain: false,
-        },
-        &LINK,
-    )?;
-    is_written("a No Op TRB", TrbKind::NoOp, &NO_OP)
+fn show_transfer_trbs<P: Print>(rt: &P) -> Result<()> {
+    let normal = TrbKind::Normal(Normal {
+        buffer: 0x1_0000_0000,
+        length: length()?,
+        short: true,
+        chain: false,
+        done: true,
+    });
+    let link = TrbKind::Link {
+        segment: pointer(0x1002_3000)?,
+        toggle: true,
+        chain: false,
+    };
+    show(rt, "Normal", normal)?;
+    show(rt, "Link", link)?;
+    show(rt, "No Op", TrbKind::NoOp)
 }
 
 /// The commands.
-fn commands() -> Result<()> {
+fn show_commands<P: Print>(rt: &P) -> Result<()> {
     let (slot, id) = (slot()?, id()?);
-    is_written(
-        "a Reset Endpoint Command TRB",
-        TrbKind::ResetEndpoint { slot, id },
-        &RESET_ENDPOINT,
-    )?;
-    is_written(
-        "a Stop Endpoint Command TRB",
-        TrbKind::StopEndpoint { slot, id },
-        &STOP_ENDPOINT,
-    )?;
-    is_written(
-        "a Set TR Dequeue Pointer Command TRB",
-        TrbKind::SetDequeue {
-            pointer: pointer(0x1002_3010)?,
-            state: true,
-            slot,
-            id,
-        },
-        &SET_DEQUEUE,
-    )
+    let set_dequeue = TrbKind::SetDequeue {
+        pointer: pointer(0x1002_3010)?,
+        state: true,
+        slot,
+        id,
+    };
+    show(rt, "Reset Endpoint", TrbKind::ResetEndpoint { slot, id })?;
+    show(rt, "Stop Endpoint", TrbKind::StopEndpoint { slot, id })?;
+    show(rt, "Set TR Dequeue Pointer", set_dequeue)
 }
 
 /// The events.
-fn events() -> Result<()> {
+fn show_events<P: Print>(rt: &P) -> Result<()> {
     let slot = slot()?;
-    is_written(
-        "a Transfer Event TRB",
-        TrbKind::TransferEvent {
-            pointer: pointer(0x1002_3000)?,
-            residual: residual()?,
-            code: 13,
-            slot,
-            id: id()?,
-        },
-        &TRANSFER_EVENT,
-    )?;
-    is_written(
-        "a Command Completion Event TRB",
-        TrbKind::CommandCompletion {
-            pointer: pointer(0x2000_0000)?,
-            code: 1,
-            slot,
-        },
-        &COMMAND_COMPLETION,
-    )
+    let transfer = TrbKind::TransferEvent {
+        pointer: pointer(0x1002_3000)?,
+        residual: residual()?,
+        code: 13,
+        slot,
+        id: id()?,
+    };
+    let completion = TrbKind::CommandCompletion {
+        pointer: pointer(0x2000_0000)?,
+        code: 1,
+        slot,
+    };
+    show(rt, "Transfer Event", transfer)?;
+    show(rt, "Command Completion Event", completion)
 }
 
-/// Whether no TRB is read from these bytes.
-fn is_unknown(bytes: &[u8; 16]) -> bool {
-    decode(bytes) == Err(Unknown)
+/// What is read from bytes.
+fn read(bytes: &[u8; 16]) -> &'static str {
+    match (decode(bytes), decode_normal(bytes)) {
+        (Err(Unknown), None) => "nothing",
+        (Err(Unknown), Some(_)) => "a Normal TRB alone",
+        (Ok(_), _) => "a TRB",
+    }
 }
 
-/// Bytes that no TRB is written as are unknown.
-fn unknown_bytes() -> Result<()> {
+/// Prints what is read from the bytes that no TRB is written as.
+fn show_unknown<P: Print>(rt: &P) -> Result<()> {
     for (bytes, fault) in &UNKNOWN {
-        expect(is_unknown(bytes), fault, "a TRB is read")?;
-        expect(reads_normal(bytes, None), fault, "a Normal TRB is read")?;
+        let read = read(bytes);
+        println!(rt; "{fault}: {read}")?;
     }
     Ok(())
 }

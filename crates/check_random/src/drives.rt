@@ -161,7 +161,7 @@ fn comparison(alloc: Global, seed: u64, h: Name) -> Result<Comparison> {
 }
 
 /// Prints entries, a line each.
-fn print_entries<R: Print>(rt: &R, entries: &[Entry]) -> Result<()> {
+pub fn print_entries<R: Print>(rt: &R, entries: &[Entry]) -> Result<()> {
     for entry in entries {
         println!(rt; "{entry}")?;
     }

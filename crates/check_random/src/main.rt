@@ -36,19 +36,20 @@ const TRIES: u32 = 3;
 
 const REFUSED: &str = "memory is refused again and again";
 
-/// Runs all scenarios, and the plan.
+/// Runs all scenarios, and the plan. Prints how much was compared, and what is told of the plan.
 fn check<R: Print>(rt: &R, alloc: Global) -> Result<()> {
     let mut seen = seen::Seen::default();
+    let (mut scenarios, mut entries): (u64, usize) = (0, 0);
     for seed in 0..SCENARIOS {
-        trial::run(alloc, seed, STEPS, &mut seen)?;
+        let same = trial::run(alloc, seed, STEPS, &mut seen)?;
+        scenarios = scenarios.saturating_add(1);
+        entries = entries.saturating_add(same);
     }
-    seen.are_all()?;
+    let (kinds, all) = (seen.count(), seen::KINDS);
     println!(rt;
-        "{SCENARIOS} scenarios of {STEPS} steps: the same entries, each kind of reply among them"
+        "{scenarios} scenarios of {STEPS} steps: {entries} entries are the same by both, with {kinds} of {all} kinds of reply"
     )?;
-    plan::run(alloc)?;
-    println!(rt; "a plan whose callbacks are called: as the rules have it")?;
-    Ok(())
+    plan::play(rt, alloc)
 }
 
 /// The words behind the program's name.

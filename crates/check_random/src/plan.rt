@@ -5,29 +5,19 @@ ghost use Rattle.std.specs.List.{AllByRecursion, count_by};
 ghost use Rattle.usb_model.specs.World.Plans.{is_submission, verdict_of};
 ghost use Rattle.usb_plans.specs.PlanRuns.{is_verdict};
 
+use crate::drives::print_entries;
 use crate::scene;
 use anyhow::{Result, anyhow};
 use bitflags::Flags as _;
 use std::alloc::Global;
 use std::sync::Arc;
 use std::sync::atomic::{AtomicU64, Ordering};
-use trace_io::print;
 use usb_core::{Callback, Once, Repeat, StoredCallback};
 use usb_model::{
     Body, DeviceNo, Entry, EpAddr, Flags, Kind, Name, Plan, Request, Returned, Rule, Sequence,
     StatusSet, Step, Verdict,
 };
 use usb_plans::drive;
-
-/// What is told of it, by the rules: of three short packets the first two are read. The first callback submits once more, the
-/// second ends.
-const TOLD: &str = "h1 done\nh1 done\nh1 number 0\nh1 number 1\n\
-    h1 ended 0 code 13\nh1 ended 1 code 13\nh1 finished 0\nh1 finished 1\n\
-    h1 called 0 ep 81 round 0 COMPLETED 1 data 0a\nh1 called 1 ep 81 round 0 COMPLETED 1 data 0b\n\
-    h1 number 2\nh1 done\n";
-
-/// How often callbacks are called in it.
-const CALLS: u64 = 2;
 
 /// A read of 8 bytes.
 fn read(ep: EpAddr) -> Request {
@@ -84,16 +74,6 @@ fn told<C: Callback>(
     driven(alloc, Vec::from_array(alloc, plan)?, callbacks)
 }
 
-/// An error unless the entries tell what they have to.
-fn are_right(alloc: Global, entries: &[Entry]) -> Result<()> {
-    let mut lines = Vec::new(alloc);
-    let _ = print::print(alloc, &mut lines, entries);
-    if lines.as_slice() != TOLD.as_bytes() {
-        return Err(anyhow!("another thing is told of the plan"));
-    }
-    Ok(())
-}
-
 /// What is told of the plan, where each callback adds one to the calls.
 fn counted(
     alloc: Global,
@@ -124,16 +104,15 @@ fn counted(
     told(alloc, h, dev, callbacks)
 }
 
-/// Runs the plan. An error where another thing is told of it, or its callbacks are called another number of times.
-pub fn run(alloc: Global) -> Result<()> {
+/// Runs the plan, and prints how often its callbacks are called and what is told of it: of three short packets the first two are
+/// read; the first callback submits once more, the second ends.
+pub fn play<R: Print>(rt: &R, alloc: Global) -> Result<()> {
     let (Some(h), Some(dev)) = (Name::new(1), DeviceNo::new(0)) else {
         return Err(anyhow!("a name and a device"));
     };
     let calls = Arc::new(alloc, AtomicU64::new(0))?;
     let entries = counted(alloc, h, dev, &calls)?;
-    are_right(alloc, entries.as_slice())?;
-    if calls.load(Ordering::SeqCst) != CALLS {
-        return Err(anyhow!("callbacks are called another number of times"));
-    }
-    Ok(())
+    let count = calls.load(Ordering::SeqCst);
+    println!(rt; "a plan whose callbacks are called: {count} times")?;
+    print_entries(rt, entries.as_slice())
 }

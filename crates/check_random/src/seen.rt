@@ -1,10 +1,9 @@
 //! Which kinds of replies were seen: a scenario in which nothing happens says nothing.
 
-use anyhow::{Result, anyhow};
 use usb_model::{Entry, Refused, Reply};
 
 /// The kinds of replies.
-const KINDS: usize = 18;
+pub const KINDS: usize = 18;
 
 /// Whether a reply of each kind was seen.
 #[derive(Clone, Copy, Default, Debug)]
@@ -49,12 +48,8 @@ impl Seen {
         }
     }
 
-    /// An error where a kind was never seen.
-    pub fn are_all(&self) -> Result<()> {
-        if self.kinds.iter().all(|seen| *seen) {
-            Ok(())
-        } else {
-            Err(anyhow!("a kind of reply was never seen"))
-        }
+    /// How many kinds were seen.
+    pub fn count(&self) -> usize {
+        self.kinds.iter().filter(|seen| **seen).count()
     }
 }

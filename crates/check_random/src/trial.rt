@@ -7,9 +7,9 @@ use anyhow::{Result, anyhow};
 use std::alloc::Global;
 use trace_io::print;
 
-/// Runs the scenario of a seed, of so many steps, by the core and by the plain program. An error where they differ, or
-/// where memory is refused.
-pub fn run(alloc: Global, seed: u64, count: u64, seen: &mut Seen) -> Result<()> {
+/// Runs the scenario of a seed, of so many steps, by the core and by the plain program: how many entries both have. An error
+/// where they differ, or where memory is refused.
+pub fn run(alloc: Global, seed: u64, count: u64, seen: &mut Seen) -> Result<usize> {
     let steps = steps(alloc, seed, count)?;
     let setup = scene::plain(alloc, seed)?;
     let Ok(plain) = reference::run(alloc, &setup, steps.as_slice()) else {
@@ -29,5 +29,5 @@ pub fn run(alloc: Global, seed: u64, count: u64, seen: &mut Seen) -> Result<()> 
         return Err(anyhow!("scenario {seed}: the entries differ"));
     }
     seen.note(real.as_slice());
-    Ok(())
+    Ok(real.len())
 }

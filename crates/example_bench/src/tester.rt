@@ -7,7 +7,7 @@ use std::thread;
 use tirnouch::{Caller, Device, Driver, Library, Naming, Recorder, Refused};
 
 /// How many transfers a thread submits.
-pub const TRANSFERS: u64 = 40;
+const TRANSFERS: u64 = 40;
 
 /// How many bytes each reads.
 const BYTES: u32 = 8;

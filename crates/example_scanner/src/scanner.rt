@@ -68,38 +68,40 @@ impl Scanner {
         }
     }
 
-    /// Asks each transfer to end that may be in progress, until all were called back: whether that came in time.
+    /// Asks each transfer to end that may be in progress, until all were called back: how many weren't in time.
     fn end<L: Naming, D: Device, J: Recorder, R: Wait>(
         &self,
         rt: &R,
         library: &Library<L, Strip, D, J>,
         caller: &mut Caller<L>,
-    ) -> Result<bool, Refused> {
+    ) -> Result<u64, Refused> {
         self.tally.stop();
+        let mut missing = IN_LINE;
         for _ in 0..TURNS {
             let (called, numbered) = self.tally.callbacks();
-            if called == numbered {
-                return Ok(true);
+            missing = numbered.saturating_sub(called);
+            if missing == 0 {
+                break;
             }
             for n in called..numbered {
                 self.cancel(rt, library, caller, n)?;
             }
             thread::yield_now();
         }
-        Ok(false)
+        Ok(missing)
     }
 }
 
 impl Driver<Strip> for Scanner {
-    type Left = Result<bool, Refused>;
+    type Left = Result<u64, Refused>;
 
-    /// Scans, and tells whether each transfer was called back.
+    /// Scans, and tells how many transfers weren't called back.
     fn drive<L: Naming, D: Device, J: Recorder, R: Wait>(
         self,
         rt: &R,
         library: &Library<L, Strip, D, J>,
         caller: &mut Caller<L>,
-    ) -> Result<bool, Refused> {
+    ) -> Result<u64, Refused> {
         self.start(rt, library, caller)?;
         for _ in 0..self.moment {
             thread::yield_now();

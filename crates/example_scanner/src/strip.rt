@@ -14,8 +14,10 @@ pub struct Tally {
     numbered: AtomicU64,
     /// How many bytes came.
     bytes: AtomicU64,
-    /// Whether a byte came out of its order, or a callback out of its.
-    wrong: AtomicBool,
+    /// How many callbacks came out of their order.
+    misplaced_callbacks: AtomicU64,
+    /// How many bytes came out of their order.
+    misplaced_bytes: AtomicU64,
     /// Whether no more is wanted.
     enough: AtomicBool,
 }
@@ -27,7 +29,8 @@ impl Tally {
             called: AtomicU64::new(0),
             numbered: AtomicU64::new(numbered),
             bytes: AtomicU64::new(0),
-            wrong: AtomicBool::new(false),
+            misplaced_callbacks: AtomicU64::new(0),
+            misplaced_bytes: AtomicU64::new(0),
             enough: AtomicBool::new(false),
         }
     }
@@ -43,9 +46,10 @@ impl Tally {
         self.enough.store(true, Ordering::SeqCst);
     }
 
-    /// Whether each byte and each callback came in its order.
-    pub fn is_right(&self) -> bool {
-        !self.wrong.load(Ordering::SeqCst)
+    /// How many callbacks and how many bytes came out of their order.
+    pub fn misplaced(&self) -> (u64, u64) {
+        let callbacks = self.misplaced_callbacks.load(Ordering::SeqCst);
+        (callbacks, self.misplaced_bytes.load(Ordering::SeqCst))
     }
 
     /// Bytes came; those of this scanner are numbered from 1 on, 255 followed by 0.
@@ -55,15 +59,15 @@ impl Tally {
         for byte in bytes {
             last = last.wrapping_add(1);
             if *byte != last {
-                self.wrong.store(true, Ordering::SeqCst);
+                self.misplaced_bytes.fetch_add(1, Ordering::SeqCst);
             }
         }
     }
 
-    /// The callback of this number was called: whether it is the next.
+    /// The callback of this number was called; the next is that of the number behind it.
     fn count(&self, number: u64) {
         if self.called.fetch_add(1, Ordering::SeqCst) != number {
-            self.wrong.store(true, Ordering::SeqCst);
+            self.misplaced_callbacks.fetch_add(1, Ordering::SeqCst);
         }
     }
 

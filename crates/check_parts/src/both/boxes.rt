@@ -3,7 +3,7 @@
 ghost use Rattle.usb_device.specs.Scripts.{Takes};
 
 use super::kinds::Counter;
-use super::told::{are_told, expect};
+use super::told::print_entries;
 use anyhow::{Result, anyhow};
 use example_devices::{Reader, device};
 use std::alloc::{AllocError, Global};
@@ -14,19 +14,15 @@ use usb_descriptors::Config;
 use usb_device::{BoxedDevice, Device};
 use usb_model::{Entry, Sequence, Step, Verdict};
 
-/// What is told of a read from each device, by the rules: both fill their room.
-const TOLD: &str = "h1 done\nh1 done\nh1 number 0\nh1 ended 0 code 1\nh1 finished 0\n\
-    h1 called 0 ep 81 round 0 COMPLETED 8 data 0102030405060708\nh1 done\n\
-    h2 done\nh2 done\nh2 number 0\nh2 ended 0 code 1\nh2 finished 0\n\
-    h2 called 0 ep 83 round 0 COMPLETED 8 data 0102030405060708\nh2 done\n";
-
 /// Plays the scene of boxes.
 pub fn play<P: Print>(rt: &P, alloc: Global) -> Result<()> {
-    boxed(alloc)?;
+    let answers = Arc::new(alloc, AtomicU64::new(0))?;
+    let entries = boxed(alloc, answers.clone()?)?;
+    let count = answers.load(Ordering::SeqCst);
     println!(rt;
-        "devices of both kinds in boxes: each answers a read, and the one that counts answered once"
+        "devices of both kinds in boxes, of which the one that counts has answered {count}"
     )?;
-    Ok(())
+    print_entries(rt, entries.as_slice())
 }
 
 /// The steps of a read of 8 bytes, from the opening of the device to the end of its callback.
@@ -89,18 +85,12 @@ fn run_both<D: Device>(
     }
 }
 
-/// A device that answers by a table, and one that counts its answers.
-fn boxed(alloc: Global) -> Result<()> {
-    let answers = Arc::new(alloc, AtomicU64::new(0))?;
+/// What is told of a device that answers by a table, and of one that counts its answers there.
+fn boxed(alloc: Global, answers: Arc<AtomicU64>) -> Result<Sequence<Entry>> {
     let (config, one) = device(alloc, 8, &[8])?;
     let (other_config, other) = device(alloc, 8, &[8])?;
-    let other = Counter::new(other, answers.clone()?);
+    let other = Counter::new(other, answers);
     let one = BoxedDevice::new(Box::new(alloc, one)?);
     let other = BoxedDevice::new(Box::new(alloc, other)?);
-    let entries = run_both(alloc, config, one, other_config, other)?;
-    are_told(alloc, entries.as_slice(), TOLD, "boxes")?;
-    expect(
-        answers.load(Ordering::SeqCst) == 1,
-        "boxes: another number of answers",
-    )
+    run_both(alloc, config, one, other_config, other)
 }

@@ -1,71 +1,98 @@
 //! What a device took: bytes that a callback sent in the place of others, and the empty packet behind whole ones.
 
-use super::bench::{Numbered, make_all};
+use super::bench::make_all;
 use super::kinds::EitherDevice;
 use super::stand::both_kinds;
-use super::told::{expect, is_told};
-use anyhow::{Result, anyhow};
+use crate::digits::Digits;
+use anyhow::Result;
 use example_devices::Reader;
 use std::alloc::{AllocError, Global};
+use std::fmt;
+use std::ops::Range;
 use usb_core::{Core, Setup};
 use usb_model::{Bytes, DeviceNo, EpAddr, Flags, Request, Step, Verdict};
 
-/// What is told, by the rules: the bytes of the verdict are a transfer of its own; of the writes of 16 and of 15 bytes, by packets
-/// of 8, the former has a third packet, which is empty.
-const LINES: &str = "h1 done\nh1 done\nh1 number 0\nh1 ended 0 code 1\nh1 finished 0\n\
-    h1 called 0 ep 02 round 0 COMPLETED 3 data -\nh1 number 1\nh1 ended 1 code 1\nh1 finished 1\n\
-    h1 called 1 ep 02 round 1 COMPLETED 2 data -\nh1 done\n\
-    h1 number 2\nh1 moved 2 8\nh1 moved 2 8\nh1 ended 2 code 1\nh1 finished 2\n\
-    h1 called 2 ep 02 round 0 COMPLETED 16 data -\nh1 done\n\
-    h1 number 3\nh1 moved 3 8\nh1 ended 3 code 1\nh1 finished 3\n\
-    h1 called 3 ep 02 round 0 COMPLETED 15 data -\nh1 done\n";
+/// The packets of a write and of what its callback sent in its place, by their number.
+const OTHERS: Range<usize> = 0..2;
 
-/// The packets that the device takes.
-const PACKETS: [&[u8]; 7] = [
-    &[0, 1, 2],
-    &[0, 1],
-    &[0, 1, 2, 3, 4, 5, 6, 7],
-    &[8, 9, 10, 11, 12, 13, 14, 15],
-    &[],
-    &[0, 1, 2, 3, 4, 5, 6, 7],
-    &[8, 9, 10, 11, 12, 13, 14],
-];
+/// Those behind them, of a write of 16 bytes and one of 15, as far as somebody looks.
+const WHOLE: Range<usize> = 2..16;
+
+/// What a scene saw.
+#[derive(Drop)]
+struct Seen {
+    /// What was told, in lines.
+    told: String,
+    /// The packets that the device took.
+    others: Vec<Vec<u8>>,
+    whole: Vec<Vec<u8>>,
+    /// How often the device that counts has answered.
+    answers: Option<u64>,
+}
 
 /// Plays the scene, at each of the two devices.
 pub fn play<P: Print>(rt: &P, alloc: Global) -> Result<()> {
-    taken_by(alloc, 0)?;
-    taken_by(alloc, 1)?;
-    println!(rt; "bytes in the place of a write's: a new number, and the device takes them")?;
-    println!(rt;
-        "an empty packet behind whole ones: 16 bytes are taken as 8, 8 and 0; 15 as 8 and 7"
-    )?;
+    for dev in 0..2_u8 {
+        show(rt, dev, taken_by(alloc, dev)?)?;
+    }
     Ok(())
 }
 
-/// A device takes the packets. The one that counts answered as often.
-fn taken_by(alloc: Global, dev: u8) -> Result<()> {
-    let reader = Reader::new(1, dev, 0)?;
-    let setup = written(alloc, &reader)?;
-    are_taken(&setup, reader.dev)?;
-    let wanted = if dev == 0 { 0 } else { PACKETS.len() as u64 };
-    expect(
-        answers(setup) == Some(wanted),
-        "the device answered another number of times",
-    )
+/// Prints what is seen of the writes to a device.
+fn show<P: Print>(rt: &P, dev: u8, seen: Seen) -> Result<()> {
+    let others = Packets(seen.others.as_slice());
+    println!(rt; "bytes in the place of a write's: device {dev} takes{others}")?;
+    let whole = Packets(seen.whole.as_slice());
+    println!(rt;
+        "an empty packet behind whole ones, of 16 bytes and not of 15: device {dev} takes{whole}"
+    )?;
+    let (told, answers) = (seen.told, seen.answers.unwrap_or(0));
+    println!(rt; "the device that counts has answered {answers}, and this is told")?;
+    print!(rt; "{told}")?;
+    Ok(())
 }
 
-/// An error unless the device took just these packets, in this order, at the endpoint 02.
-fn are_taken(setup: &Setup<EitherDevice>, dev: DeviceNo) -> Result<()> {
-    let ep = EpAddr::new(0x02);
-    for (i, packet) in PACKETS.iter().enumerate() {
-        if setup.taken(dev, ep, i) != Some(*packet) {
-            return Err(anyhow!("packet {i} is another"));
+/// Packets, a space before each.
+#[derive(Clone, Copy)]
+struct Packets<'a>(&'a [Vec<u8>]);
+
+impl fmt::Display for Packets<'_> {
+    fn fmt<W: fmt::Write>(&self, f: &mut fmt::Formatter<W>) -> fmt::Result {
+        for packet in self.0 {
+            let packet = Digits(packet.as_slice());
+            write!(f, " {packet}")?;
+        }
+        Ok(())
+    }
+}
+
+/// What is seen of the writes to a device.
+fn taken_by(alloc: Global, dev: u8) -> Result<Seen> {
+    let reader = Reader::new(1, dev, 0)?;
+    let mut told = String::new(alloc);
+    let setup = written(alloc, &reader, &mut told)?;
+    Ok(Seen {
+        told,
+        others: packets_of(alloc, &setup, reader.dev, OTHERS)?,
+        whole: packets_of(alloc, &setup, reader.dev, WHOLE)?,
+        answers: answers(setup),
+    })
+}
+
+/// The packets that a device took at the endpoint 02, of those with these numbers.
+fn packets_of(
+    alloc: Global,
+    setup: &Setup<EitherDevice>,
+    dev: DeviceNo,
+    numbers: Range<usize>,
+) -> Result<Vec<Vec<u8>>> {
+    let mut packets = Vec::new(alloc);
+    for i in numbers {
+        if let Some(packet) = setup.taken(dev, EpAddr::new(0x02), i) {
+            packets.push(Vec::from_slice(alloc, packet)?)?;
         }
     }
-    expect(
-        setup.taken(dev, ep, PACKETS.len()).is_none(),
-        "there are more packets",
-    )
+    Ok(packets)
 }
 
 /// How often the device that counts has answered, once it is taken out of its setup.
@@ -79,18 +106,11 @@ fn answers(setup: Setup<EitherDevice>) -> Option<u64> {
     answers
 }
 
-/// Where the writes leave the devices.
-fn written(alloc: Global, reader: &Reader) -> Result<Setup<EitherDevice>> {
+/// Where the writes leave the devices; what is told of them stands behind these lines.
+fn written(alloc: Global, reader: &Reader, told: &mut String) -> Result<Setup<EitherDevice>> {
     let mut core = Core::new(alloc, both_kinds(alloc)?)?;
-    write(alloc, &mut core, reader)?;
+    make_all(alloc, &mut core, steps(alloc, reader)?, told)?;
     Ok(core.into_setup())
-}
-
-/// Makes the writes. An error where another thing is told.
-fn write(alloc: Global, core: &mut Numbered, reader: &Reader) -> Result<()> {
-    let mut lines = String::new(alloc);
-    make_all(alloc, core, steps(alloc, reader)?, &mut lines)?;
-    is_told(lines.as_str(), LINES, "writes")
 }
 
 /// The steps of a write of 3 bytes, whose callback sends 2 others, and of writes of 16 and 15 bytes.

@@ -71,16 +71,19 @@ impl Host {
         Ok(Host { core, dev, alloc })
     }
 
-    /// Does what a line says, and gives what is told of it, or found: a line of a scenario, `zeros H EP N` for a write of so
-    /// many zeros with an empty packet behind them, or a look that changes nothing. A look is `transfer EP INDEX`, `order INDEX`
-    /// or `event INDEX` for a TRB in memory, `enqueue EP` for the place of the next TRB, `taken EP` for the packets that the
-    /// device took; `stands EP` for how an endpoint stands, `line EP INDEX` for the transfer at a place of its line, `callback H N` for
-    /// one in its callback, and `plug` for whether the device is there. An error where a line is none of these, or nothing is there.
-    pub fn answer(&mut self, line: &str) -> Result<String> {
+    /// What a look finds, which changes nothing; None where a line is no look, or nothing is there. A look is `transfer EP INDEX`,
+    /// `order INDEX` or `event INDEX` for a TRB in memory, `enqueue EP` for the place of the next TRB, `taken EP` for the packets
+    /// that the device took; `stands EP` for how an endpoint stands, `line EP INDEX` for the transfer at a place of its line,
+    /// `callback H N` for one in its callback, and `plug` for whether the device is there.
+    pub fn find(&self, line: &str) -> Result<Option<Found>> {
         let words: Vec<&str> = line.split(' ').collect(self.alloc)?;
-        if let Some(found) = self.look(words.as_slice()) {
-            return Ok(format!(in self.alloc; "{found}")?);
-        }
+        Ok(self.look(words.as_slice()))
+    }
+
+    /// Makes the step of a line, and gives what is told of it: a line of a scenario, or `zeros H EP N` for a write of so many zeros
+    /// with an empty packet behind them. An error where a line is neither.
+    pub fn tell(&mut self, line: &str) -> Result<String> {
+        let words: Vec<&str> = line.split(' ').collect(self.alloc)?;
         match self.step(line, words.as_slice()) {
             Some(step) => self.make(step),
             None => Err(anyhow!("nothing is known of {line}")),

@@ -14,7 +14,7 @@ pub const SCENES: &[Scene] = &[
 
 /// The longest read, of which each packet is full; one byte more is refused.
 const LONGEST_READ: Scene = Scene {
-    title: "a read of 262144 bytes: its four TRBs, 512 packets and one event",
+    title: "a read of 262144 bytes: its TRBs and its event",
     size: 512,
     answers: &[Answers {
         ep: 0x81,
@@ -52,7 +52,7 @@ const LONGEST_READ: Scene = Scene {
 
 /// A read of which the last packet has two of the four bytes that are left, in its second TRB.
 const SHORT_IN_SECOND_TRB: Scene = Scene {
-    title: "a read of 65540 bytes that ends short: its event is at the second TRB",
+    title: "a read of 65540 bytes that ends short: its TRBs and its event",
     size: 512,
     answers: &[
         Answers {
@@ -93,7 +93,7 @@ const SHORT_IN_SECOND_TRB: Scene = Scene {
 
 /// A write of whole packets with an empty one behind them, which is a TD of its own.
 const LONG_WRITE: Scene = Scene {
-    title: "a write of 131072 bytes and an empty packet: its three TRBs, and 257 packets",
+    title: "a write of 131072 bytes and an empty packet: its TRBs, its event, and what is taken",
     size: 512,
     answers: &[Answers {
         ep: 0x02,
@@ -129,7 +129,7 @@ const LONG_WRITE: Scene = Scene {
 
 /// A read of two TRBs, of which one stands at the last place before the Link, the other at the first behind it.
 const LINK_WITHIN_TRANSFER: Scene = Scene {
-    title: "a read of 65540 bytes across the Link: it is chained as well",
+    title: "a read of 65540 bytes across the Link: its TRBs, and the Link between them",
     size: 8,
     answers: &[Answers {
         ep: 0x81,

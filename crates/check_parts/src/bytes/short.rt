@@ -105,7 +105,7 @@ const TRANSFER_RING_BYTES: Scene = Scene {
 /// Three reads. The buffer of a transfer begins 262,144 bytes behind that of the one before, from 4 GiB on, and one that is
 /// taken leaves its buffer to the next.
 const BUFFERS: Scene = Scene {
-    title: "a read behind another and one behind both: each TRB has the buffer of its own transfer",
+    title: "a read behind another and one behind both: the buffers of their TRBs",
     size: 8,
     answers: &[Answers {
         ep: 0x81,
@@ -137,7 +137,7 @@ const BUFFERS: Scene = Scene {
 /// A read that is cancelled after its first packet: the endpoint stops, its TRB becomes a No Op, and the controller is moved
 /// past it.
 const ERRAND_BYTES: Scene = Scene {
-    title: "a cancel amid a read: its orders and events, and the No Op that is left",
+    title: "a cancel amid a read: its orders and events, and what is left of its TRB",
     size: 8,
     answers: &[Answers {
         ep: 0x81,
