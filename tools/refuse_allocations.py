@@ -262,8 +262,10 @@ def has_one_answer(word, given):
 
 
 def is_sound(whole):
-    """Whether an undisturbed run ended by itself, and its allocations were seen."""
-    return whole.status in ENDS and whole.made["memory"] > 0
+    """Whether an undisturbed run ended by itself, its allocations were seen, it told of no want of memory, since none was refused, and one
+    that failed told why."""
+    says = whole.status == 0 or bool(whole.out or whole.err)
+    return whole.status in ENDS and whole.made["memory"] > 0 and not whole.err.endswith(NO_MEMORY) and says
 
 
 def is_whole(printed):

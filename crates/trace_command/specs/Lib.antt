@@ -1,1 +1,4 @@
+pub mod CommandLine
+pub mod Layer
 pub mod Status
+pub mod Tests

@@ -1,5 +1,8 @@
 //! The colours of printed lines.
 
+ghost use Rattle.std.specs.Prelude.{◌≡◌};
+ghost use Rattle.trace_command.specs.declared.colours.ColourOption.TheVariants.{Unsaid};
+
 use crate::printed_line::{PrintedLine, TestResult};
 use std::alloc::AllocError;
 
@@ -40,7 +43,9 @@ impl ColourOption {
     }
 
     /// Whether there are colours, on a terminal that has some or elsewhere.
-    pub fn is_on(self, is_terminal: bool) -> bool {
+    pub fn is_on(self, is_terminal: bool) -> bool
+        ensures unsaid { self ≡ Unsaid → result ≡ is_terminal }
+    {
         match self {
             ColourOption::Always => true,
             ColourOption::Unsaid | ColourOption::Auto => is_terminal,

@@ -1,5 +1,8 @@
 //! The options of `devices` by which one device is meant, and a file that says what the capture lacks of it.
 
+ghost use Rattle.std.specs.Prelude.{◌≡◌, false};
+ghost use Rattle.trace_command.specs.CommandLine.{no_options};
+
 use crate::beside::{read_beside, read_file};
 use std::alloc::{AllocError, Global};
 use std::fmt;
@@ -114,7 +117,9 @@ impl<'a> DeviceOptions<'a> {
     }
 
     /// Whether there is one.
-    pub fn is_any(&self) -> bool {
+    pub fn is_any(&self) -> bool
+        ensures none { self.now ≡ no_options → result ≡ false }
+    {
         self.device.is_some()
             || self.descriptors.is_some()
             || self.umockdev.is_some()

@@ -1,5 +1,10 @@
 //! The words of a command line, and the files that it names.
 
+ghost use Rattle.std.specs.Prelude.{◌≡◌, false};
+ghost use Rattle.trace_command.specs.CommandLine.{IsInLines};
+ghost use Rattle.trace_command.specs.declared.files.OutputOption.TheVariants.{Unasked};
+ghost use Rattle.trace_command.specs.declared.printed.PrintedForm.TheVariants.{Lines};
+
 use crate::colours::ColourOption;
 use crate::device_options::DeviceOptions;
 use crate::printed::PrintedForm;
@@ -31,7 +36,9 @@ pub enum OutputOption<'a> {
 
 impl<'a> OutputOption<'a> {
     /// Whether it is asked for.
-    pub fn is_asked(&self) -> bool {
+    pub fn is_asked(&self) -> bool
+        ensures unasked { self.now ≡ Unasked → result ≡ false }
+    {
         !matches!(self, OutputOption::Unasked)
     }
 
@@ -137,7 +144,9 @@ impl<'a> CommandLine<'a> {
     }
 
     /// In which form it is printed.
-    pub fn form(&self) -> PrintedForm {
+    pub fn form(&self) -> PrintedForm
+        ensures lines { IsInLines self.now → result ≡ Lines }
+    {
         if self.is_json {
             return PrintedForm::Json;
         }

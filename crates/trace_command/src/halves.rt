@@ -1,10 +1,13 @@
 //! Inputs of which only a part can be printed: what is missing is told on standard error.
 
-ghost use Rattle.std.specs.Prelude.{◌≡◌, is_some};
+ghost use Rattle.std.specs.Prelude.{◌≡◌, ◌≤◌, false, is_some, length};
+ghost use Rattle.trace_io.specs.Input.{longest_input};
+ghost use Rattle.usb_scripttext.specs.Words.{words_of};
+ghost use Rattle.trace_command.specs.Layer.{TracesInput, is_half};
 ghost use Rattle.trace_command.specs.Status.{half_status};
 
 use crate::input_test::test_input;
-use crate::statuses::{FAILED, half_status, tell_failure};
+use crate::statuses::{FAILED, half_status, print_all, tell_fault};
 use std::alloc::Global;
 use std::io::{Read, Write};
 use std::sync::Wait;
@@ -20,7 +23,9 @@ use usb_scripttext::TextFault;
 const CUT_LINE: &[u8] = b"# the capture ends amid a record\n";
 
 /// Whether a task is done over an input that is read first, to tell what is missing of it, or more of a test.
-fn may_lack(task: &Task) -> bool {
+fn may_lack(task: &Task) -> bool
+    ensures { result ≡ is_half task.now }
+{
     match task {
         Task::Draw { from, to } | Task::Page { from, to } => *from > 1 || *to < u64::MAX,
         Task::Describe | Task::Devices(_) | Task::Test => true,
@@ -77,16 +82,9 @@ fn tell_cut<E: Write>(is_cut: bool, status: u8, err: &mut E) -> u8
 
 /// Prints the devices of a capture, tells if that ends amid a record, and answers the status.
 fn print_devices<W: Write, E: Write>(devices: &[u8], status: u8, out: &mut W, err: &mut E) -> u8 {
-    let printed = match out.write_all(devices) {
-        Ok(()) => out.flush(),
-        Err(error) => Err(error),
-    };
-    match printed {
+    match print_all(devices, out, err) {
         Ok(()) => tell_cut(devices.starts_with(CUT_LINE), status, err),
-        Err(error) => {
-            tell_failure(&error, err);
-            FAILED
-        }
+        Err(failed) => failed,
     }
 }
 
@@ -195,13 +193,15 @@ fn perform_whole<T: Threads + Wait + Sync, W: Write, E: Write>(
     text: &[u8],
     out: &mut W,
     err: &mut E,
-) -> Result<u8, Fault> {
+) -> Result<u8, Fault>
+    requires { length text.now ≤ longest_input }
+{
     match task {
         Task::Draw { from, to } | Task::Page { from, to } => {
             draw(rt, alloc, words, text, (*from, *to), out, err)
         }
         Task::Describe => describe(rt, alloc, words, text, out, err),
-        Task::Test => Ok(test_input(rt, alloc, words, text, out, err)?),
+        Task::Test => Ok(test_input(alloc, text, out, err)),
         _ => Ok(record(rt, alloc, words, text, out, err)),
     }
 }
@@ -222,10 +222,7 @@ fn perform_half<T: Threads + Wait + Sync, R: Read, W: Write, E: Write>(
     };
     match done {
         Ok(status) => status,
-        Err(fault) => {
-            let _ = fault.tell(err);
-            FAILED
-        }
+        Err(fault) => tell_fault(fault, err),
     }
 }
 
@@ -238,7 +235,9 @@ pub fn perform_task<T: Threads + Wait + Sync, R: Read, W: Write, E: Write>(
     input: &mut R,
     out: &mut W,
     err: &mut E,
-) -> u8 {
+) -> u8
+    ensures { is_half task.now ≡ false → TracesInput (words_of words.now) (R.remaining input.old) (W.contents out.old) (W.contents out.new) (E.contents err.old) (E.contents err.new) result }
+{
     if may_lack(task) {
         perform_half(rt, alloc, words, task, input, out, err)
     } else {

@@ -1,5 +1,8 @@
 //! Bytes of files, in the place of words of a text that name the files.
 
+ghost use Rattle.std.specs.Prelude.{◌≡◌, false, None, Ok};
+ghost use Rattle.trace_command.specs.Layer.{may_name_files};
+
 use crate::beside::read_file;
 use std::alloc::{AllocError, Global};
 use std::fmt;
@@ -296,7 +299,9 @@ pub fn inserted<R: Files>(
     alloc: Global,
     folder: Option<&str>,
     text: &[u8],
-) -> Result<Option<Vec<u8>>, InsertedFault> {
+) -> Result<Option<Vec<u8>>, InsertedFault>
+    ensures none { may_name_files text.now ≡ false → result ≡ Ok None }
+{
     if !text.contains(&b'@') {
         return Ok(None);
     }

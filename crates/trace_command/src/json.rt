@@ -1,6 +1,7 @@
 //! A text of JSON that is written piece by piece.
 
 use crate::printed_line::is_number;
+use serde_json::Value;
 use std::alloc::{AllocError, Global};
 
 /// A text of JSON.
@@ -39,29 +40,11 @@ impl JsonText {
         self.bytes.extend_from_slice(other.as_bytes())
     }
 
-    /// Puts a byte of a string behind it.
-    fn put_byte(&mut self, byte: u8) -> Result<(), AllocError> {
-        match byte {
-            b'"' => self.put("\\\""),
-            b'\\' => self.put("\\\\"),
-            0..=0x1f => {
-                let escape = format!(in self.alloc; "\\u{byte:04x}")?;
-                self.put(escape.as_str())
-            }
-            _ => {
-                self.bytes.push(byte)?;
-                Ok(())
-            }
-        }
-    }
-
     /// Puts a string behind it.
     pub fn put_string(&mut self, text: &str) -> Result<(), AllocError> {
-        self.put("\"")?;
-        for byte in text.as_bytes() {
-            self.put_byte(*byte)?;
-        }
-        self.put("\"")
+        let string = Value::String(String::from_str(self.alloc, text)?);
+        let written = string.to_string(self.alloc)?;
+        self.put(written.as_str())
     }
 
     /// Puts the key of a member behind it, and a comma before that where it isn't the object's first.

@@ -17,11 +17,17 @@
 //! - `bad_line.rt`, `expecting.rt`, `input_test.rt`: why a line of a test is bad; whether a test expects anything; both told of a test that isn't in
 //!   a file by name
 //! - `statuses.rt`, specs/Status: the statuses
+//! - specs/CommandLine, Layer, Tests: lines that have words alone; what is promised of them, and of a test; how tests are counted
 //!
 //! # Contracts
 //!
-//! Only the statuses have one (`half_status`, `lenient_status`, `tests_status`). What a word prints over one input is the promise of `trace`
-//! of `trace_main`, which does all of it.
+//! - `perform`: words without files and options (`IsPlain`, specs/CommandLine) come to what is promised of `trace` of `trace_main`, clause by
+//!   clause (`Traces`, specs/Layer), where the input's bytes are known, it names no file, and more is told of no task (`is_half`)
+//! - within `trace_command`, `test_input`: a test that isn't in a file ends as `trace` says of it, by its status (`EndsTest`); `run_tests`: each
+//!   test of a file is counted by what came of it, or as failed where the file isn't read (`CountsFiles`, specs/Tests), and the status is that of
+//!   the tally, or 1 (`IsStatusOf`); the statuses (`half_status`, `lenient_status`, `tests_status`)
+//!
+//! Of a line with options, or with files, no contract says what is printed.
 #![tactic(auto)]
 
 mod bad_line;

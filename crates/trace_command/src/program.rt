@@ -1,6 +1,12 @@
 //! What the words ask for, over standard input or files.
 
-ghost use Rattle.std.specs.Prelude.{◌≡◌};
+ghost use Rattle.std.specs.Prelude.{◌≡◌, false, true, IfErr, IfOk, IfSome};
+ghost use Rattle.trace_io.specs.CommandLine.{AskFor};
+ghost use Rattle.trace_io.specs.declared.fault.Fault.TheVariants.{Memory};
+ghost use Rattle.usb_scripttext.specs.Words.{words_of};
+ghost use Rattle.trace_command.specs.Layer.{TracesInput};
+ghost use Rattle.trace_command.specs.CommandLine.{IsInLines, IsPlain, is_version};
+ghost use Rattle.trace_command.specs.declared.printed.PrintedForm.TheVariants.{Lines};
 
 use crate::colours::ColourOption;
 use crate::device_options::DeviceOptions;
@@ -10,7 +16,7 @@ use crate::halves::record_one;
 use crate::inserted::folder_of;
 use crate::printed::{Printed, PrintedForm};
 use crate::scenarios::perform_over;
-use crate::statuses::{BAD_WORDS, FAILED, status_of, tell_failure};
+use crate::statuses::{BAD_WORDS, FAILED, print_all, status_of, tell_failure, tell_fault};
 use crate::testing::run_tests;
 use clap::error::ErrorKind;
 use std::alloc::Global;
@@ -36,21 +42,17 @@ fn refuse_file<E: Write>(file: &str, err: &mut E) -> u8
 
 /// Prints the version.
 fn print_version<W: Write, E: Write>(out: &mut W, err: &mut E) -> u8 {
-    let printed = match out.write_all(VERSION) {
-        Ok(()) => out.flush(),
-        Err(error) => Err(error),
-    };
-    match printed {
+    match print_all(VERSION, out, err) {
         Ok(()) => 0,
-        Err(error) => {
-            tell_failure(&error, err);
-            FAILED
-        }
+        Err(failed) => failed,
     }
 }
 
 /// What the words ask for; None where they are bad or ask for help, which `trace` tells. A fault where memory is refused.
-fn task_of(alloc: Global, words: &[&str]) -> Result<Option<Task>, Fault> {
+fn task_of(alloc: Global, words: &[&str]) -> Result<Option<Task>, Fault>
+    ensures task { IfOk result (λ task. IfSome task (AskFor (words_of words.now))) }
+    ensures fault { IfErr result (λ fault. fault ≡ Memory) }
+{
     match read_words(alloc, words) {
         Ok(task) => Ok(Some(task)),
         Err(error) => match error.kind() {
@@ -60,12 +62,23 @@ fn task_of(alloc: Global, words: &[&str]) -> Result<Option<Task>, Fault> {
     }
 }
 
-/// Tells a fault, and answers its status.
-fn tell_fault<E: Write>(fault: Fault, err: &mut E) -> u8
-    ensures { result ≡ 1 }
+/// Does what words ask for over an input. Files that a scenario names are looked for in this folder.
+fn run_words<T: Threads + Wait + Sync + Files, R: Read, W: Write, E: Write>(
+    rt: &T,
+    alloc: Global,
+    words: &[&str],
+    folder: Option<&str>,
+    input: &mut R,
+    out: &mut W,
+    err: &mut E,
+) -> u8
+    ensures { TracesInput (words_of words.now) (R.remaining input.old) (W.contents out.old) (W.contents out.new) (E.contents err.old) (E.contents err.new) result }
 {
-    let _ = fault.tell(err);
-    FAILED
+    match task_of(alloc, words) {
+        Ok(Some(task)) => perform_over(rt, alloc, words, &task, folder, input, out, err),
+        Ok(None) => trace(rt, alloc, words, input, out, err),
+        Err(fault) => tell_fault(fault, err),
+    }
 }
 
 /// Runs the program on its words and an input. Files that a scenario names are looked for in this folder.
@@ -77,13 +90,11 @@ fn run_input<T: Threads + Wait + Sync + Files, R: Read, W: Write, E: Write>(
     input: &mut R,
     out: &mut W,
     err: &mut E,
-) -> u8 {
-    let words = line.words.as_slice();
-    let status = match task_of(alloc, words) {
-        Ok(Some(task)) => perform_over(rt, alloc, words, &task, folder, input, out, err),
-        Ok(None) => trace(rt, alloc, words, input, out, err),
-        Err(fault) => tell_fault(fault, err),
-    };
+) -> u8
+    ensures { line.now.is_lenient ≡ false
+        → TracesInput (words_of line.now.words.items) (R.remaining input.old) (W.contents out.old) (W.contents out.new) (E.contents err.old) (E.contents err.new) result }
+{
+    let status = run_words(rt, alloc, line.words.as_slice(), folder, input, out, err);
     status_of(status, line.is_lenient)
 }
 
@@ -229,19 +240,47 @@ fn run_line_tests<T: Threads + Wait + Sync + Files + Alloc + Clone + Drop, W: Wr
     run_tests(rt, alloc, line, junit, pages, out, err)
 }
 
+/// Whether words ask for the version.
+fn is_version(words: &[&str]) -> bool
+    ensures { result ≡ is_version (words_of words.now) }
+{
+    match words {
+        [_, word] => *word == "--version" || *word == "-V",
+        _ => false,
+    }
+}
+
+/// Whether there are words alone, of which `trace` knows what they ask for: no file, and no option that says what is done with files.
+fn are_words_alone(line: &CommandLine<'_>) -> bool
+    ensures { IsPlain line.now → result ≡ true }
+{
+    line.files.is_empty()
+        && !line.devices.is_any()
+        && !line.junit.is_asked()
+        && !line.html.is_asked()
+        && !line.is_update
+        && !is_version(line.words.as_slice())
+}
+
 /// Does what the words ask for, and answers the status. Where they name no file, standard input is read.
 fn perform_words<
     T: Threads + Wait + Sync + Files + Alloc + Clone + Drop,
     R: Read,
     W: Write,
     E: Write,
->(rt: &T, alloc: Global, line: &CommandLine<'_>, input: &mut R, out: &mut W, err: &mut E) -> u8 {
+>(rt: &T, alloc: Global, line: &CommandLine<'_>, input: &mut R, out: &mut W, err: &mut E) -> u8
+    ensures { IsPlain line.now
+        → TracesInput (words_of line.now.words.items) (R.remaining input.old) (W.contents out.old) (W.contents out.new) (E.contents err.old) (E.contents err.new) result }
+{
+    if are_words_alone(line) {
+        return run_input(rt, alloc, line, None, input, out, err);
+    }
     if let Some(status) = perform_described(rt, alloc, line, input, out, err) {
         return status;
     }
     let (words, files) = (line.words.as_slice(), line.files.as_slice());
     match (words, files) {
-        ([_, "--version" | "-V"], []) => print_version(out, err),
+        (words, []) if is_version(words) => print_version(out, err),
         ([_, "test"], [_, ..]) => run_line_tests(rt, alloc, line, out, err),
         _ if line.junit.is_asked() => refuse_junit(err),
         _ if line.html.is_asked() => refuse_html(err),
@@ -261,7 +300,9 @@ fn refuse_colours<E: Write>(err: &mut E) -> u8
 }
 
 /// The form of what is printed: help is printed as it is.
-fn form_of(line: &CommandLine<'_>) -> PrintedForm {
+fn form_of(line: &CommandLine<'_>) -> PrintedForm
+    ensures { IsInLines line.now → result ≡ Lines }
+{
     if line
         .words
         .iter()
@@ -273,17 +314,22 @@ fn form_of(line: &CommandLine<'_>) -> PrintedForm {
     }
 }
 
-/// Does what the words ask for, prints in the form that they ask for, and answers the status.
-pub fn perform<
+/// Does what the words ask for, prints in this form, which isn't lines as they are, and answers the status.
+fn perform_in_form<
     T: Threads + Wait + Sync + Files + Alloc + Clone + Drop,
     R: Read,
     W: Write,
     E: Write,
->(rt: &T, alloc: Global, line: &CommandLine<'_>, input: &mut R, out: &mut W, err: &mut E) -> u8 {
-    if line.colours == ColourOption::Bad {
-        return refuse_colours(err);
-    }
-    let mut printed = Printed::new(alloc, form_of(line), line.printed_by(), out);
+>(
+    rt: &T,
+    alloc: Global,
+    line: &CommandLine<'_>,
+    form: PrintedForm,
+    input: &mut R,
+    out: &mut W,
+    err: &mut E,
+) -> u8 {
+    let mut printed = Printed::new(alloc, form, line.printed_by(), out);
     let status = perform_words(rt, alloc, line, input, &mut printed, err);
     match printed.end() {
         Ok(()) => status,
@@ -292,4 +338,25 @@ pub fn perform<
             FAILED
         }
     }
+}
+
+/// Does what the words ask for, prints in the form that they ask for, and answers the status. Words without files and options come to what
+/// `trace` promises of them.
+pub fn perform<
+    T: Threads + Wait + Sync + Files + Alloc + Clone + Drop,
+    R: Read,
+    W: Write,
+    E: Write,
+>(rt: &T, alloc: Global, line: &CommandLine<'_>, input: &mut R, out: &mut W, err: &mut E) -> u8
+    ensures { IsPlain line.now
+        → TracesInput (words_of line.now.words.items) (R.remaining input.old) (W.contents out.old) (W.contents out.new) (E.contents err.old) (E.contents err.new) result }
+{
+    if line.colours == ColourOption::Bad {
+        return refuse_colours(err);
+    }
+    let form = form_of(line);
+    if form == PrintedForm::Lines {
+        return perform_words(rt, alloc, line, input, out, err);
+    }
+    perform_in_form(rt, alloc, line, form, input, out, err)
 }

@@ -1,8 +1,14 @@
 //! Scenarios whose lines name files: the words that take one get it with the bytes of the files.
 
+ghost use Rattle.std.specs.Prelude.{◌≡◌, false, IfOk, IsOk};
+ghost use Rattle.trace_io.specs.CommandLine.{AskFor};
+ghost use Rattle.trace_io.specs.declared.words.Task.{Task};
+ghost use Rattle.usb_scripttext.specs.Words.{words_of};
+ghost use Rattle.trace_command.specs.Layer.{Traces, TracesInput, is_half, may_name_files};
+
 use crate::halves::perform_task;
 use crate::inserted::{InsertedFault, inserted};
-use crate::statuses::FAILED;
+use crate::statuses::{FAILED, tell_fault};
 use std::alloc::Global;
 use std::io::{Read, Write};
 use std::rt::Files;
@@ -25,7 +31,11 @@ fn perform_scenario<T: Threads + Wait + Sync + Files, W: Write, E: Write>(
     text: &[u8],
     out: &mut W,
     err: &mut E,
-) -> Result<u8, InsertedFault> {
+) -> Result<u8, InsertedFault>
+    ensures done { may_name_files text.now ≡ false → IsOk result }
+    ensures traced { IfOk result (λ status. is_half task.now ≡ false → ((t : Task) → AskFor (words_of words.now) t → is_half t ≡ false) → may_name_files text.now ≡ false
+        → Traces (words_of words.now) text.now (W.contents out.old) (W.contents out.new) (E.contents err.old) (E.contents err.new) status) }
+{
     let whole = inserted(rt, alloc, folder, text)?;
     let mut input = match &whole {
         Some(whole) => whole.as_slice(),
@@ -57,15 +67,18 @@ pub fn perform_over<T: Threads + Wait + Sync + Files, R: Read, W: Write, E: Writ
     input: &mut R,
     out: &mut W,
     err: &mut E,
-) -> u8 {
+) -> u8
+    requires { AskFor (words_of words.now) task.now }
+    ensures { TracesInput (words_of words.now) (R.remaining input.old) (W.contents out.old) (W.contents out.new) (E.contents err.old) (E.contents err.new) result }
+{
     if !takes_scenario(task) {
         return perform_task(rt, alloc, words, task, input, out, err);
     }
-    let performed = match read_whole(alloc, input) {
-        Ok(text) => perform_scenario(rt, alloc, words, task, folder, text.as_slice(), out, err),
-        Err(fault) => Err(InsertedFault::from(fault)),
+    let text = match read_whole(alloc, input) {
+        Ok(text) => text,
+        Err(fault) => return tell_fault(fault, err),
     };
-    match performed {
+    match perform_scenario(rt, alloc, words, task, folder, text.as_slice(), out, err) {
         Ok(status) => status,
         Err(fault) => refuse(&fault, err),
     }

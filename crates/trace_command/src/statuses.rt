@@ -1,10 +1,13 @@
 //! The statuses with which the program ends.
 
 ghost use Rattle.std.specs.Prelude.{◌≡◌};
+ghost use Rattle.trace_io.specs.Faults.{message_of};
+ghost use Rattle.trace_io.specs.Output.{AppendsSome};
 ghost use Rattle.trace_command.specs.Status.{half_status, lenient_status, tests_status};
 
 use std::io;
 use std::io::{ErrorKind, Write};
+use trace_io::Fault;
 
 /// The status of a run that ended early.
 pub const FAILED: u8 = 1;
@@ -51,4 +54,28 @@ pub fn tell_failure<E: Write>(error: &io::Error, err: &mut E) {
         _ => b"usbtrace: input or output failed\n",
     };
     let _ = err.write_all(told);
+}
+
+/// Tells a fault that ended a run early, and answers the status.
+pub fn tell_fault<E: Write>(fault: Fault, err: &mut E) -> u8
+    ensures status { result ≡ 1 }
+    ensures told { AppendsSome (message_of fault) (E.contents err.old) (E.contents err.new) }
+{
+    let _ = fault.tell(err);
+    FAILED
+}
+
+/// Prints a text, all of it. Where that fails it is told, and the status is given.
+pub fn print_all<W: Write, E: Write>(text: &[u8], out: &mut W, err: &mut E) -> Result<(), u8> {
+    let printed = match out.write_all(text) {
+        Ok(()) => out.flush(),
+        Err(error) => Err(error),
+    };
+    match printed {
+        Ok(()) => Ok(()),
+        Err(error) => {
+            tell_failure(&error, err);
+            Err(FAILED)
+        }
+    }
 }

@@ -1,7 +1,8 @@
 //! Tests of files, and of the files in folders.
 
-ghost use Rattle.std.specs.Prelude.{◌≡◌, ◌≤◌, false, true};
+ghost use Rattle.std.specs.Prelude.{◌≡◌, false, IfOk, OnOk};
 ghost use Rattle.trace_command.specs.Status.{tests_status};
+ghost use Rattle.trace_command.specs.Tests.{CountsFile, CountsFiles, CountsTest, IsStatusOf, counted, no_tests, passes, with_one};
 
 use crate::bad_line::first_bad_line;
 use crate::expecting::expects_nothing;
@@ -31,18 +32,18 @@ struct Tally {
 
 impl Tally {
     /// Of no test.
-    fn new() -> Tally {
+    fn new() -> Tally
+        ensures { result ≡ no_tests }
+    {
         Tally {
             passed: 0,
             failed: 0,
         }
     }
 
-    /// Counts a test. One that failed is never lost.
+    /// Counts a test.
     fn count(&mut self, is_passed: bool)
-        ensures counted { is_passed ≡ false → 1 ≤ self.new.failed }
-        ensures kept { self.old.failed ≤ self.new.failed }
-        ensures passed { is_passed ≡ true → self.new.failed ≡ self.old.failed }
+        ensures { self.new ≡ counted is_passed self.old }
     {
         if is_passed {
             self.passed = self.passed.saturating_add(1);
@@ -59,15 +60,22 @@ impl Tally {
     }
 }
 
-/// Tests that are being made: the streams on which is told what comes of them.
-struct Testing<'a, 'p, W, E> {
-    alloc: Global,
+/// How tests are counted, and how they are.
+#[derive(Clone, Copy)]
+struct Counting {
+    /// Whether a test is passed whose packets aren't as expected.
     is_lenient: bool,
     /// Whether the lines that differ are rewritten.
     is_update: bool,
+    tally: Tally,
+}
+
+/// Tests that are being made: the streams on which is told what comes of them.
+struct Testing<'a, 'p, W, E> {
+    alloc: Global,
+    counting: Counting,
     /// Whether it is told on standard output too why a file isn't tested.
     tells_why: bool,
-    tally: Tally,
     /// The tests, if they are wanted in a file too.
     cases: Option<TestCases>,
     /// The folder of the pages, if these are wanted.
@@ -80,10 +88,8 @@ impl<W, E> Drop for Testing<'_, '_, W, E> {
     fn drop(self) {
         let Testing {
             alloc: _,
-            is_lenient: _,
-            is_update: _,
+            counting: _,
             tells_why: _,
-            tally: _,
             cases: _,
             pages: _,
             out: _,
@@ -93,7 +99,9 @@ impl<W, E> Drop for Testing<'_, '_, W, E> {
 }
 
 /// Whether a test is passed.
-fn is_passed(outcome: &TestOutcome, is_lenient: bool) -> bool {
+fn is_passed(outcome: &TestOutcome, is_lenient: bool) -> bool
+    ensures { result ≡ passes is_lenient outcome.now }
+{
     match outcome {
         TestOutcome::Passed => true,
         TestOutcome::Differs(_) => false,
@@ -111,7 +119,9 @@ fn whole_of<'a>(given: &'a [u8], whole: &'a Option<Vec<u8>>) -> &'a [u8] {
 
 impl<W: Write, E: Write> Testing<'_, '_, W, E> {
     /// Notes a test for the file of all, where that is wanted.
-    fn note(&mut self, file: &str, end: CaseEnd, told: &[u8]) -> io::Result<()> {
+    fn note(&mut self, file: &str, end: CaseEnd, told: &[u8]) -> io::Result<()>
+        ensures { self.new.counting ≡ self.old.counting }
+    {
         if let Some(cases) = &mut self.cases {
             cases.add(file, end, told)?;
         }
@@ -119,9 +129,11 @@ impl<W: Write, E: Write> Testing<'_, '_, W, E> {
     }
 
     /// Tells on standard error why a file isn't tested, behind its name and this, and on standard output that it failed.
-    fn refuse(&mut self, file: &str, join: &str, why: &str) -> io::Result<()> {
+    fn refuse(&mut self, file: &str, join: &str, why: &str) -> io::Result<()>
+        ensures { OnOk result (self.new.counting ≡ with_one false self.old.counting) }
+    {
         let _ = write!(self.err, "usbtrace: {file}{join}{why}\n");
-        self.tally.count(false);
+        self.counting.tally.count(false);
         self.note(file, CaseEnd::Error, why.as_bytes())?;
         write!(self.out, "{file}: not tested\n")?;
         if self.tells_why {
@@ -131,13 +143,17 @@ impl<W: Write, E: Write> Testing<'_, '_, W, E> {
     }
 
     /// The same, where a fault ended it.
-    fn refuse_fault(&mut self, file: &str, fault: &InsertedFault) -> io::Result<()> {
+    fn refuse_fault(&mut self, file: &str, fault: &InsertedFault) -> io::Result<()>
+        ensures { OnOk result (self.new.counting ≡ with_one false self.old.counting) }
+    {
         let why = format!(in self.alloc; "{fault}")?;
         self.refuse(file, ": ", why.as_str())
     }
 
     /// The same, where a fault ended a test of this text; behind a bad line stands why that is bad.
-    fn refuse_text(&mut self, file: &str, text: &[u8], fault: Fault) -> io::Result<()> {
+    fn refuse_text(&mut self, file: &str, text: &[u8], fault: Fault) -> io::Result<()>
+        ensures { OnOk result (self.new.counting ≡ with_one false self.old.counting) }
+    {
         let Some(bad) = first_bad_line(self.alloc, text)? else {
             return self.refuse_fault(file, &InsertedFault::from(fault));
         };
@@ -153,13 +169,15 @@ impl<W: Write, E: Write> Testing<'_, '_, W, E> {
         file: &str,
         text: &[u8],
         outcome: &TestOutcome,
-    ) -> io::Result<()> {
+    ) -> io::Result<()>
+        ensures { OnOk result (self.new.counting ≡ with_one (passes self.old.counting.is_lenient outcome.now) self.old.counting) }
+    {
         let told = report(self.alloc, outcome)?;
-        let is_passed = is_passed(outcome, self.is_lenient);
+        let is_passed = is_passed(outcome, self.counting.is_lenient);
         if is_passed && expects_nothing(self.alloc, text)? {
             let _ = write!(self.err, "usbtrace: {file} expects nothing\n");
         }
-        self.tally.count(is_passed);
+        self.counting.tally.count(is_passed);
         let end = if is_passed {
             CaseEnd::Passed
         } else {
@@ -180,7 +198,9 @@ impl<W: Write, E: Write> Testing<'_, '_, W, E> {
         rt: &R,
         file: &str,
         text: &[u8],
-    ) -> io::Result<()> {
+    ) -> io::Result<()>
+        ensures { OnOk result (CountsTest text.now self.old.counting self.new.counting) }
+    {
         match test(self.alloc, text) {
             Ok(outcome) => self.tell(rt, file, text, &outcome),
             Err(fault) => self.refuse_text(file, text, fault),
@@ -194,8 +214,10 @@ impl<W: Write, E: Write> Testing<'_, '_, W, E> {
         file: &str,
         given: &[u8],
         text: &[u8],
-    ) -> io::Result<()> {
-        if self.is_update {
+    ) -> io::Result<()>
+        ensures { OnOk result (self.old.counting.is_update ≡ false → CountsTest text.now self.old.counting self.new.counting) }
+    {
+        if self.counting.is_update {
             self.update_text(rt, file, given, text)
         } else {
             self.test_text(rt, file, text)
@@ -203,11 +225,9 @@ impl<W: Write, E: Write> Testing<'_, '_, W, E> {
     }
 
     /// Tests a file, or rewrites its lines, and tells what came of it behind its name.
-    fn test_file<R: Threads + Wait + Sync + Files>(
-        &mut self,
-        rt: &R,
-        file: &str,
-    ) -> io::Result<()> {
+    fn test_file<R: Threads + Wait + Sync + Files>(&mut self, rt: &R, file: &str) -> io::Result<()>
+        ensures { OnOk result (self.old.counting.is_update ≡ false → CountsFile self.old.counting self.new.counting) }
+    {
         let Ok(mut input) = fs::open(rt, file) else {
             return self.refuse(file, " ", "can't be read");
         };
@@ -229,7 +249,9 @@ impl<W: Write, E: Write> Testing<'_, '_, W, E> {
         &mut self,
         rt: &R,
         folder: &str,
-    ) -> io::Result<()> {
+    ) -> io::Result<()>
+        ensures { OnOk result (self.old.counting.is_update ≡ false → CountsFiles self.old.counting self.new.counting) }
+    {
         let Ok(files) = tests_in(rt, self.alloc, folder) else {
             return self.refuse(folder, " ", "can't be read");
         };
@@ -242,26 +264,40 @@ impl<W: Write, E: Write> Testing<'_, '_, W, E> {
         Ok(())
     }
 
+    /// Tests a file, or the files of a folder.
+    fn test_path<R: Threads + Wait + Sync + Files + Alloc + Clone + Drop>(
+        &mut self,
+        rt: &R,
+        path: &str,
+    ) -> io::Result<()>
+        ensures { OnOk result (self.old.counting.is_update ≡ false → CountsFiles self.old.counting self.new.counting) }
+    {
+        if is_folder(rt, path) {
+            return self.test_folder(rt, path);
+        }
+        self.test_file(rt, path)
+    }
+
     /// Tests files and folders, and tells how many tests are passed.
     fn test_all<R: Threads + Wait + Sync + Files + Alloc + Clone + Drop>(
         &mut self,
         rt: &R,
         files: &[&str],
-    ) -> io::Result<()> {
+    ) -> io::Result<()>
+        ensures { OnOk result (self.old.counting.is_update ≡ false → CountsFiles self.old.counting self.new.counting) }
+    {
         for file in files {
-            if is_folder(rt, file) {
-                self.test_folder(rt, file)?;
-            } else {
-                self.test_file(rt, file)?;
-            }
+            self.test_path(rt, file)?;
         }
-        let Tally { passed, failed } = self.tally;
+        let Tally { passed, failed } = self.counting.tally;
         write!(self.out, "{passed} passed, {failed} failed\n")?;
         self.out.flush()
     }
 
     /// Writes the tests into a file; whether it could be written.
-    fn write_cases<R: Files>(&mut self, rt: &R, file: &str) -> io::Result<bool> {
+    fn write_cases<R: Files>(&mut self, rt: &R, file: &str) -> io::Result<bool>
+        ensures { self.new.counting ≡ self.old.counting }
+    {
         let Some(cases) = &self.cases else {
             return Ok(true);
         };
@@ -279,14 +315,16 @@ impl<W: Write, E: Write> Testing<'_, '_, W, E> {
         rt: &R,
         files: &[&str],
         junit: Option<&str>,
-    ) -> io::Result<u8> {
+    ) -> io::Result<u8>
+        ensures { IfOk result (λ status. self.old.counting.is_update ≡ false → IsStatusOf self.old.counting status) }
+    {
         self.test_all(rt, files)?;
         if let Some(file) = junit {
             if !self.write_cases(rt, file)? {
                 return Ok(FAILED);
             }
         }
-        Ok(self.tally.status())
+        Ok(self.counting.tally.status())
     }
 }
 
@@ -300,17 +338,21 @@ pub fn run_tests<T: Threads + Wait + Sync + Files + Alloc + Clone + Drop, W: Wri
     pages: Option<&str>,
     out: &mut W,
     err: &mut E,
-) -> u8 {
+) -> u8
+    ensures { line.now.is_update ≡ false → IsStatusOf (record { is_lenient = line.now.is_lenient; is_update = false; tally = no_tests }) result }
+{
     let cases = match junit {
         Some(_) => Some(TestCases::new(alloc)),
         None => None,
     };
     let mut testing = Testing {
         alloc,
-        is_lenient: line.is_lenient,
-        is_update: line.is_update,
+        counting: Counting {
+            is_lenient: line.is_lenient,
+            is_update: line.is_update,
+            tally: Tally::new(),
+        },
         tells_why: line.is_json,
-        tally: Tally::new(),
         cases,
         pages,
         out,

@@ -1,5 +1,7 @@
 //! Pages of the tests that failed.
 
+ghost use Rattle.std.specs.Prelude.{◌≡◌};
+
 use super::Testing;
 use crate::page::{FailedTest, page};
 use crate::shown_run::shown_run;
@@ -54,7 +56,9 @@ impl<W: Write, E: Write> Testing<'_, '_, W, E> {
         text: &[u8],
         outcome: &TestOutcome,
         told: &[u8],
-    ) -> io::Result<()> {
+    ) -> io::Result<()>
+        ensures { self.new.counting ≡ self.old.counting }
+    {
         let Some(folder) = self.pages else {
             return Ok(());
         };

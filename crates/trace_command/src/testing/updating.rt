@@ -46,14 +46,14 @@ impl<W: Write, E: Write> Testing<'_, '_, W, E> {
         let corrected: Corrected = with_corrections(self.alloc, text, found)?;
         if corrected.count > 0 && fs::write(rt, file, corrected.text.as_slice()).is_err() {
             let _ = write!(self.err, "usbtrace: {file} can't be written\n");
-            self.tally.count(false);
+            self.counting.tally.count(false);
             return write!(self.out, "{file}: not updated\n");
         }
         self.tell_updated(file, &corrected)?;
         if corrected.staying.is_empty() {
             self.test_written(rt, file, corrected.text.as_slice())
         } else {
-            self.tally.count(false);
+            self.counting.tally.count(false);
             Ok(())
         }
     }
@@ -99,8 +99,8 @@ impl<W: Write, E: Write> Testing<'_, '_, W, E> {
             Ok(outcome) => outcome,
             Err(fault) => return self.refuse_text(file, text, fault),
         };
-        if is_passed(&outcome, self.is_lenient) {
-            self.tally.count(true);
+        if is_passed(&outcome, self.counting.is_lenient) {
+            self.counting.tally.count(true);
             return Ok(());
         }
         self.tell(rt, file, text, &outcome)

@@ -1,0 +1,2 @@
+mod Traced
+mod Counting

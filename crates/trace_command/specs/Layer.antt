@@ -1,0 +1,46 @@
+-- What the program does with words that name no file, and with a test of one.
+use Rattle.std.specs.Prelude.{◌≡◌, ◌⊎◌, ◌||◌, ◌==◌, ◌+◌, ℕ, nat_lt, Bool, true, false, List, [], Option, Some, None, IfSome, Result, Ok, Err}
+use Rattle.std.specs.Io.KnownBytes.{Keeps}
+use Rattle.std.specs.List.{list_any}
+use Rattle.clap.specs.Walk.{Text}
+use Rattle.trace_io.specs.CommandLine.{AreBad, AskFor, AskForHelp}
+use Rattle.trace_io.specs.declared.fault.Fault.{Fault}
+use Rattle.trace_io.specs.declared.words.Task.{Task}
+use Rattle.trace_io.specs.declared.words.Task.TheVariants as task
+use Rattle.trace_run.specs.declared.tasks.TaskEnd.{TaskEnd}
+use Rattle.trace_scenario.specs.Findings.{bad_lines}
+use Rattle.trace_main.specs.Program.{AskForOther, AskForThreads, Begins, FindsUnexpected, IsSilentAtBad, Performs, TellsRest, TellsWhy, status_of}
+use Rattle.trace_main.specs.Source.{OfSource, text_in}
+
+-- whether more is told of a task than `trace` tells: what is missing of an input, or of a test why a line is bad and that it expects nothing; so of a picture of some lines
+abbrev pub is_half : Task → Bool
+is_half (task.Draw from to) = nat_lt 1 from || nat_lt to 18446744073709551615
+is_half (task.Page from to) = nat_lt 1 from || nat_lt to 18446744073709551615
+is_half task.Describe = true
+is_half (task.Devices reader) = true
+is_half task.Test = true
+is_half t = false
+
+-- whether a text may name a file whose bytes it has
+abbrev pub may_name_files : List ℕ → Bool
+may_name_files text = list_any (λ b. b == 64) text
+
+-- what comes of these words over this input, by what stood on the streams before and stands there behind, and the status: what is promised of `trace`, clause by clause
+pub record Traces (words : List Text) (text : List ℕ) (old new err_old err_new : Option (List ℕ)) (status : ℕ) : Type 0 where
+  pub unexpected : status ≡ 3 → (t : Task) × AskFor words t × FindsUnexpected t text old new
+  pub done : status ≡ 0 → ((t : Task) × AskFor words t × TellsRest t text old new err_old err_new) ⊎ AskForHelp words
+  pub quiet : status ≡ 0 → AskForThreads words ⊎ Keeps err_old err_new
+  pub refused : status ≡ 2 → AreBad words × Keeps old new
+  pub silent : IsSilentAtBad text old new ⊎ AskForHelp words ⊎ AskForOther words
+  pub bad : AskFor words task.Check → status ≡ 0 → OfSource text (λ src. bad_lines (text_in src) ≡ [])
+  pub unfinished : (t : Task) → AskFor words t → Begins t text old new
+  pub told : status ≡ 1 → TellsWhy words (Some text) old new err_old err_new
+
+-- the same of an input, where its bytes are known, it names no file, and the words ask for no task of which more is told
+abbrev pub TracesInput : List Text → Option (List ℕ) → (old new err_old err_new : Option (List ℕ)) → ℕ → Type 0
+TracesInput words input old new err_old err_new status =
+    ((t : Task) → AskFor words t → is_half t ≡ false) → IfSome input (λ text. may_name_files text ≡ false → Traces words text old new err_old err_new status)
+
+-- how a test ends that isn't in a file by name: as `trace` says of it, and by its status; or the status is 1, since memory was refused behind it
+abbrev pub EndsTest : List ℕ → Option (List ℕ) → Option (List ℕ) → ℕ → Type 0
+EndsTest text old new status = (ended : Result TaskEnd Fault) × Performs task.Test text [] old new ended × ((status ≡ status_of ended) ⊎ (status ≡ 1))

@@ -1,0 +1,53 @@
+-- How tests of files are counted.
+use Rattle.std.specs.Prelude.{◌≡◌, ◌⊎◌, ◌+◌, ◌-◌, ◌^◌, min, ℕ, Bool, true, false, List, [], ◌∷◌}
+use Rattle.trace_io.specs.declared.fault.Fault.{Fault}
+use Rattle.trace_test.specs.Tests.{IsOfTest, IsOutcome}
+use Rattle.trace_test.specs.declared.difference.TestOutcome.{TestOutcome}
+use Rattle.trace_test.specs.declared.difference.TestOutcome.TheVariants.{Passed, Differs, Unexpected}
+use Rattle.trace_command.specs.Status.{tests_status}
+use Rattle.trace_command.specs.declared.testing.Counting.{Counting}
+use Rattle.trace_command.specs.declared.testing.Tally.{Tally}
+
+-- one more, as far as a u64 counts
+abbrev pub more : ℕ → ℕ
+more n = min (n + 1) (2 ^ 64 - 1)
+
+-- one test more, passed or failed
+abbrev pub counted : Bool → Tally → Tally
+counted true t = record t { passed = more t.passed }
+counted false t = record t { failed = more t.failed }
+
+abbrev pub with_one : Bool → Counting → Counting
+with_one passed t = record t { tally = counted passed t.tally }
+
+-- no test yet
+abbrev pub no_tests : Tally
+no_tests = record { passed = 0; failed = 0 }
+
+-- whether a test of which this came is passed: where it is lenient, also with packets that weren't as expected
+abbrev pub passes : (lenient : Bool) → TestOutcome → Bool
+passes lenient Passed = true
+passes lenient (Differs difference) = false
+passes lenient (Unexpected unexpected) = lenient
+
+-- a test of this text was made and counted: by what came of it, or as failed, where a fault ended it
+pub data CountsTest (text : List ℕ) (old new : Counting) : Type 0 where
+  tested : (outcome : TestOutcome) → IsOutcome text outcome → new ≡ with_one (passes old.is_lenient outcome) old → CountsTest text old new
+  ended : (fault : Fault) → IsOfTest text fault → new ≡ with_one false old → CountsTest text old new
+
+-- a file was tested and counted, by its text; or it couldn't be read or names one that can't be, and counts as failed
+pub data CountsFile (old new : Counting) : Type 0 where
+  read : (text : List ℕ) → CountsTest text old new → CountsFile old new
+  unread : new ≡ with_one false old → CountsFile old new
+
+-- some files were, one behind the other: each led to the next of these
+unfoldable pub CountsTo : Counting → List Counting → Counting → Type 0
+CountsTo old [] new = new ≡ old
+CountsTo old (t ∷ ts) new = CountsFile old t × CountsTo t ts new
+
+abbrev pub CountsFiles : Counting → Counting → Type 0
+CountsFiles old new = (ts : List Counting) × CountsTo old ts new
+
+-- the status of such tests is that of their tally; or 1, where what came of them couldn't be told or written
+abbrev pub IsStatusOf : Counting → ℕ → Type 0
+IsStatusOf old status = (new : Counting) × CountsFiles old new × ((status ≡ tests_status new.tally.failed) ⊎ (status ≡ 1))
