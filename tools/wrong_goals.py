@@ -9,6 +9,8 @@ from edits import BESIDE
 FILE = BESIDE / "goals.json"
 # A line of the prover that says what it refuses, and where; lines and columns move with any change.
 AT = re.compile(r"(?:note: )?(?:\./)?(\S+?):\d+:\d+: (?:error: |warning: )?(.*)")
+# What the prover notes of a proof that is dear, before it says what it refuses.
+ASIDE = "note: large solution"
 # The goal's name, behind which stands what it says: in an error at its front, in a note in parentheses behind a sentence. `rt` cuts such a
 # line at 160 characters, its place included.
 NAME, SENTENCE, WIDTH = re.compile(r"`[^`]+`"), re.compile(r".*?\(`[^`)]+`\)"), 130
@@ -28,7 +30,7 @@ def goal_of(line: str) -> Optional[str]:
 def first_goal(lines: List[str]) -> Optional[str]:
     """The goal by which a check refuses an edit, chosen from what it printed as `rt` does: an error or a note first, and what a proof file
     says of a name that is gone last."""
-    told = [it for it in lines if AT.match(it)]
+    told = [it for it in lines if AT.match(it) and ASIDE not in it]
     told = [it for it in told if ": error" in it or it.startswith("note: ")] or told
     gone = re.compile(r"(note: )?(\./)?proofs/.*(has no field|is not in scope|has no `|was not admitted)")
     return next((goal_of(it) for it in told if not gone.match(it)), goal_of(told[0]) if told else None)

@@ -212,7 +212,8 @@ impl<'a> Macros<'a> {
         if let Some(text) = self.called(alloc, words.as_slice())? {
             return Ok(text);
         }
-        let mut text = line.to_vec(alloc)?;
+        let mut text = Vec::with_capacity(alloc, line.len().saturating_add(1))?;
+        text.extend_from_slice(line)?;
         text.push(b'\n')?;
         Ok(text)
     }

@@ -1,6 +1,6 @@
 //! What a run printed and left, as far as nothing was compared with it.
 
-ghost use Rattle.std.specs.Prelude.{◌≡◌, ◌≤◌, IfOk, length, None, Some, drop, nat_eq, string_bytes, if◌then◌else◌};
+ghost use Rattle.std.specs.Prelude.{◌≡◌, ◌≤◌, IfOk, length, None, Some, drop, nat_eq, if◌then◌else◌};
 ghost use Rattle.std.specs.List.{prefix_len, starts_with};
 ghost use Rattle.std.specs.Option.{option_copied};
 ghost use Rattle.trace_test.specs.Comparison.{any_of, at_line, compare_any, compare_entry, compare_left, compare_line, compared_as, differs, first_text, front_of, is_other, next_of, past_others, shown, taken, texts_of};
@@ -12,6 +12,7 @@ use crate::expected::{behind, expected, expected_any, expected_left, fits};
 use crate::parts::past_first;
 use std::alloc::{AllocError, Global};
 use std::marker::Model;
+use trace_io::add_decimal;
 use usb_model::Bytes;
 
 /// What a run printed, each entry behind the number of its line, and what is left at its end.
@@ -33,11 +34,17 @@ impl<'a> Model for Unmet<'a> {
     ghost view = { λ u. record { of = u.of; printed = texts_of u.printed.now; left = texts_of u.left.now } };
 }
 
-/// What stands in front of each entry of a line.
-fn front_of(alloc: Global, at: u64) -> Result<String, AllocError>
-    ensures { IfOk result (λ front. string_bytes front ≡ front_of at) }
+/// For how many bytes there is room in front of an entry: 20 digits of its line's number, and what stands behind them.
+const FRONT: usize = 24;
+
+/// What stands in front of each entry of a line. It is made for each line that is compared, so by no formatter.
+fn front_of(alloc: Global, at: u64) -> Result<Vec<u8>, AllocError>
+    ensures { IfOk result (λ front. front.items ≡ front_of at) }
 {
-    format!(in alloc; "{at}  | ")
+    let mut front = Vec::with_capacity(alloc, FRONT)?;
+    add_decimal(&mut front, at)?;
+    front.extend_from_slice(b"  | ")?;
+    Ok(front)
 }
 
 /// The first of some texts; none where there is none.
@@ -178,7 +185,7 @@ impl<'a> Unmet<'a> {
         ensures { IfOk result (λ next. option_copied next ≡ next_of self.now) }
     {
         let front = front_of(alloc, self.of)?;
-        Ok(behind(front.as_bytes(), first_text(self.printed)))
+        Ok(behind(front.as_slice(), first_text(self.printed)))
     }
 
     /// Where a line has entries, these are compared next; so where it may stand for no line.
@@ -186,8 +193,8 @@ impl<'a> Unmet<'a> {
         ensures { IfOk result (λ _. self.new ≡ at_line at line.now self.old) }
     {
         let (front, next) = (front_of(alloc, self.of)?, front_of(alloc, at)?);
-        let printed = past_front(front.as_bytes(), self.printed);
-        if may_be_nothing(line) || first_text(printed).starts_with(next.as_bytes()) {
+        let printed = past_front(front.as_slice(), self.printed);
+        if may_be_nothing(line) || first_text(printed).starts_with(next.as_slice()) {
             self.of = at;
             self.printed = printed;
         }
@@ -213,7 +220,7 @@ impl<'a> Unmet<'a> {
         ensures { IfOk result (λ _. self.new ≡ past_others wanted.now self.old) }
     {
         let front = front_of(alloc, self.of)?;
-        self.printed = past_others(front.as_bytes(), wanted, self.printed);
+        self.printed = past_others(front.as_slice(), wanted, self.printed);
         Ok(())
     }
 
