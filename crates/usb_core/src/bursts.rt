@@ -2,7 +2,7 @@
 //!
 //! Each call makes turns of the world one behind another, as the calls of one step would: it only spends less on them.
 
-ghost use Rattle.std.specs.Prelude.{◌≡◌, ◌+◌, ◌≤◌, ◌<◌, length, max, option_map, replicate, slice_get};
+ghost use Rattle.std.specs.Prelude.{◌≡◌, ◌+◌, ◌≤◌, ◌<◌, None, length, max, option_map, replicate, slice_get};
 ghost use Rattle.usb_model.specs.declared.step.Step.TheVariants.{Serve};
 ghost use Rattle.usb_model.specs.Setup.{Setup as ModelSetup};
 ghost use Rattle.usb_model.specs.World.{World, world_from};
@@ -27,6 +27,7 @@ impl<P, D: Device> Core<P, D> {
         ensures turned { TurnsInRow self.old (replicate (result.full + 1) (Serve dev ep)) (burst_entries result) self.new }
         ensures few { result.full + 1 ≤ max 1 most }
         ensures ends { result.full + 1 < most → Differs result.each result.last }
+        ensures none { result.full ≡ 0 → result.each ≡ None }
         ensures carries { StillCarries self.old self.new }
     {
         self.parts.serve_burst(dev, ep, most)

@@ -1,6 +1,6 @@
 //! Packets in a row at an endpoint, in one call.
 
-ghost use Rattle.std.specs.Prelude.{◌≡◌, ◌+◌, ◌≤◌, ◌<◌, ◌∷◌, [], ◌++◌, ℕ, max, replicate, false, true, IfNone, IfSome, IsSome, Some};
+ghost use Rattle.std.specs.Prelude.{◌≡◌, ◌+◌, ◌≤◌, ◌<◌, ◌∷◌, [], ◌++◌, ℕ, max, replicate, false, true, IfNone, IfSome, IsSome, None, Some};
 ghost use Rattle.usb_tables.specs.TransfersInFlight.{item_at};
 ghost use Rattle.usb_model.specs.declared.step.Step.TheVariants.{Serve};
 ghost use Rattle.usb_tables.specs.declared.transfer.Transfer.{Transfer as InFlight};
@@ -66,6 +66,7 @@ impl<P, D: Device> Parts<P, D> {
         ensures carries { StillCarries self.old self.new }
         ensures few { result.full + 1 ≤ max 1 most }
         ensures ends { result.full + 1 < most → Differs result.each result.last }
+        ensures none { result.full ≡ 0 → result.each ≡ None }
     {
         let first = self.serve(dev, ep);
         let Some(each) = whole_of(&first) else {
