@@ -35,9 +35,10 @@ abbrev pub TellsPacket : Option (List ℕ) → ℤ → (old new : List ℕ) → 
 TellsPacket None answer old new = (answer ≡ negsuc 0) × (new ≡ old)
 TellsPacket (Some packet) answer old new = (answer ≡ answer_of (length packet)) × (new ≡ filled packet old)
 
-abbrev pub TellsTaken : (dev ep i : ℕ) → ℤ → (old new : List ℕ) → Session → Type 0
-TellsTaken dev ep i answer old new s = (setup : Setup) (w : World) (k : ℕ) → ShowsWorld setup s.core w → interface_of setup dev ep ≡ Some k
-    → TellsPacket (slice_get (w.endpoints dev ep).packets_received i) answer old new
+-- where there is such an endpoint; and where there is none, as past the last packet
+pub record TellsTaken (dev ep i : ℕ) (answer : ℤ) (old new : List ℕ) (s : Session) : Type 0 where
+  pub there : (setup : Setup) (w : World) (k : ℕ) → ShowsWorld setup s.core w → interface_of setup dev ep ≡ Some k → TellsPacket (slice_get (w.endpoints dev ep).packets_received i) answer old new
+  pub nowhere : (setup : Setup) (w : World) → ShowsWorld setup s.core w → interface_of setup dev ep ≡ None → TellsPacket None answer old new
 
 -- what is to be done at an endpoint, in numbers: a packet; an order, an event and a result; a halt; how many answers are left
 abbrev pub view_numbers : (packet order event result is_halted : Bool) → ℕ → EndpointView

@@ -52,7 +52,7 @@
 //! - `tirnouch_take`: the oldest result, with what was kept under its handle and number; its callback ends (`GoesOut`). Memory that C
 //!   lent goes back, and has its bytes; else they are still to be fetched (`BytesGo`). `tirnouch_fetch`: its bytes, just once
 //! - `tirnouch_turn`: packets, what is to be done, and the oldest result, one behind the other (`Works`)
-//! - `tirnouch_taken`: a packet that a device took
+//! - `tirnouch_taken`: a packet that a device took, or -1: past the last, and where there is no such endpoint (`TellsTaken`)
 //! - `tirnouch_feed`: one more answer behind a device's script, as if it had stood there from the beginning: the session shows the
 //!   world of the longer script where it stood, and no step is made (`Feeds`); refused, nothing changed. `tirnouch_offer`: the packet
 //!   that a device is to answer next, by the world, its bytes, and whether the device is asked (`TellsNext`)

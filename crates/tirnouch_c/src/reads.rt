@@ -1,6 +1,10 @@
 //! What can be asked without a step.
 
-ghost use Rattle.std.specs.Prelude.{◌≡◌};
+ghost use Rattle.std.specs.Prelude.{◌≡◌, ℕ, None, Some, slice_get};
+ghost use Rattle.std.specs.Option.{option_copied};
+ghost use Rattle.usb_core.specs.Public.{ShowsWorld};
+ghost use Rattle.usb_model.specs.Setup.{Setup, interface_of};
+ghost use Rattle.usb_model.specs.World.{World};
 ghost use Rattle.tirnouch_c.specs.Reads.{TellsLook, TellsPending, TellsTaken, next_numbers, view_numbers, waiting_bits};
 
 use crate::results::{answer_of, fill};
@@ -95,11 +99,33 @@ pub fn pending(session: &Session, after: Option<(DeviceNo, EpAddr)>, next: &mut 
     *next = NextWork::of(&session.core.pending(after));
 }
 
-/// The packet of this index that a device took at an endpoint: its length, and its bytes, as far as there is room; -1 past the last.
+/// The interface of a device's endpoint; None where there is no such device, or it has no such endpoint.
+fn interface_of(session: &Session, dev: DeviceNo, ep: EpAddr) -> Option<u8>
+    ensures { (setup : Setup) (w : World) → ShowsWorld setup session.now.core w → result ≡ interface_of setup dev ep }
+{
+    match session.core.config(dev) {
+        None => None,
+        Some(config) => config.interface_of(ep),
+    }
+}
+
+/// The packet of this index that a device took at an endpoint; None past the last, and where there is no such endpoint.
+fn packet_at(session: &Session, dev: DeviceNo, ep: EpAddr, i: usize) -> Option<&[u8]>
+    ensures there { (setup : Setup) (w : World) (k : ℕ) → ShowsWorld setup session.now.core w → interface_of setup dev ep ≡ Some k → option_copied result ≡ slice_get (w.endpoints dev ep).packets_received i }
+    ensures nowhere { (setup : Setup) (w : World) → ShowsWorld setup session.now.core w → interface_of setup dev ep ≡ None → option_copied result ≡ None }
+{
+    match interface_of(session, dev, ep) {
+        None => None,
+        Some(_) => session.core.taken(dev, ep, i),
+    }
+}
+
+/// The packet of this index that a device took at an endpoint: its length, and its bytes, as far as there is room; -1 past the last, and
+/// where there is no such endpoint.
 pub fn taken(session: &Session, dev: DeviceNo, ep: EpAddr, i: usize, buffer: &mut [u8]) -> i32
     ensures { TellsTaken dev ep i result buffer.old buffer.new session.now }
 {
-    match session.core.taken(dev, ep, i) {
+    match packet_at(session, dev, ep, i) {
         None => -1,
         Some(packet) => {
             let _ = fill(buffer, packet);
