@@ -16,9 +16,10 @@ use bitflags::Flags as _;
 use std::alloc::{AllocError, Global};
 use std::result;
 use trace_io::print;
-use usb_core::{Callback, Ruled, Stopped};
-use usb_model::{Entry, Name, Plan, Rule, Sequence, StatusSet, Step};
-use usb_plans::{Comparison, drive, drive_alone};
+use usb_core::{Callback, Ruled};
+use usb_device::TableDevice;
+use usb_model::{Entry, Name, Plan, Reply, Rule, Sequence, StatusSet, Step};
+use usb_plans::{Comparison, PlanRun, StoppedDrive, drive, drive_alone};
 
 /// How many pieces the plan has.
 const PIECES: u64 = 200;
@@ -98,6 +99,9 @@ fn plan_of(alloc: Global, seed: u64) -> Result<Called> {
     Ok(plan)
 }
 
+/// A plan that stopped.
+type Stopped = StoppedDrive<Ruled, TableDevice>;
+
 /// Runs a seed's plan. An error within where that stopped.
 fn driven(alloc: Global, seed: u64) -> Result<result::Result<Sequence<Entry>, Stopped>> {
     let Called { plan, callbacks } = plan_of(alloc, seed)?;
@@ -134,6 +138,44 @@ fn begins(alloc: Global, told: &[Entry], whole: &[Entry]) -> Result<()> {
     }
 }
 
+/// How many numbers these entries give to transfers of a handle.
+fn numbers_given(entries: &[Entry], h: Name) -> u64 {
+    let mut count: u64 = 0;
+    for entry in entries {
+        if entry.owner == Some(h) && matches!(&entry.reply, Reply::Number(_)) {
+            count = count.saturating_add(1);
+        }
+    }
+    count
+}
+
+/// Whether a run stands behind just these entries: the next number of each handle follows those that they give.
+fn stands_behind(run: &PlanRun<Ruled, TableDevice>, entries: &[Entry]) -> bool {
+    for number in 0..64_u8 {
+        let Some(h) = Name::new(number) else {
+            return false;
+        };
+        if run.core().next_number(h) != numbers_given(entries, h) {
+            return false;
+        }
+    }
+    true
+}
+
+/// What a plan told that stopped. An error unless its run stands behind just that.
+fn told_before(stopped: Stopped) -> Result<Sequence<Entry>> {
+    let StoppedDrive { entries, run } = stopped;
+    let fits = match &run {
+        Some(run) => stands_behind(run, entries.as_slice()),
+        None => entries.as_slice().is_empty(),
+    };
+    if fits {
+        Ok(entries)
+    } else {
+        Err(anyhow!("a plan that stopped stands elsewhere than it told"))
+    }
+}
+
 /// What is told of a seed's plan, which is run again where memory is refused.
 fn whole(alloc: Global, seed: u64) -> Result<Sequence<Entry>> {
     let mut told = Sequence::new(alloc);
@@ -143,7 +185,7 @@ fn whole(alloc: Global, seed: u64) -> Result<Sequence<Entry>> {
                 begins(alloc, told.as_slice(), entries.as_slice())?;
                 return Ok(entries);
             }
-            Ok(Err(stopped)) => told = stopped.entries,
+            Ok(Err(stopped)) => told = told_before(stopped)?,
             Err(_) => {}
         }
     }

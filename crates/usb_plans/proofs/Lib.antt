@@ -2,6 +2,7 @@ pub mod OnlySteps
 pub mod TakenCallbacks
 mod NoneRuns
 mod Stages
+mod StillShown
 mod ToldVerdicts
 pub mod Reached
 mod Apart

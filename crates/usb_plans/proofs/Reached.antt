@@ -1,5 +1,5 @@
 -- How far a plan is.
-use Rattle.std.proofs.Common.{◌≡◌, ℕ, ◌+◌, ◌<◌, Bool, true, false, inl, inr, List, [], ◌∷◌, ◌++◌, drop, length, length-append, map, suc, slice_index_or, Option, Some, None, refl, ap, sym, ◌∙◌, subst, append-nil, append_assoc, arith}
+use Rattle.std.proofs.Common.{◌≡◌, ℕ, ◌+◌, ◌<◌, Bool, true, false, List, [], ◌∷◌, ◌++◌, drop, length, map, slice_index_or, Option, Some, None, refl, ap, sym, ◌∙◌, subst, append-nil, append_assoc}
 use Rattle.std.specs.Prelude.{if◌then◌else◌, is_some}
 use Rattle.std.specs.List.{AllByRecursion, count_by}
 use Rattle.std.specs.Vec.Iter.{into_iter_items, into_iter_len}
@@ -16,20 +16,19 @@ use Rattle.usb_model.specs.declared.verdict.Verdict.TheVariants as verdict
 use Rattle.usb_model.specs.Setup.{Setup}
 use Rattle.usb_model.specs.World.{World, new_world, turn, world_from}
 use Rattle.usb_model.specs.World.Journal.{IsBeginning, journal, journal_from, run_from, world_run}
-use Rattle.usb_model.specs.World.Plans.{Expands, ExpandsFrom, Stage, expand, expand_from, first_stage, is_submission, needs_stop, return_steps, returning, rules_after, stage_after, steps_of, verdict_by}
-use Rattle.proof_model.proofs.Handles.Beginnings.{first_steps}
+use Rattle.usb_model.specs.World.Plans.{Expands, ExpandsFrom, Stage, expand, expand_from, first_stage, is_submission, needs_stop, return_steps, rules_after, stage_after}
 use Rattle.proof_model.proofs.Handles.Isolation.{sees_alone}
 use Rattle.proof_model.proofs.Handles.Runs.{run_append, world_append}
 use Rattle.proof_model.proofs.Bound.AskedEnds.{asked_ends}
 use Rattle.proof_model.proofs.Cut.Runs.{cuts_at}
 use Rattle.proof_model.proofs.Places.Runs.{keeps_places}
 use Rattle.usb_plans.specs.declared.plan_run.Performed.{Performed}
-use Rattle.usb_plans.specs.Drives.{Advances, IsDriven, IsDrivenTo, ObeysAll, TakesNext}
+use Rattle.usb_plans.specs.Drives.{Advances, IsDriven, IsDrivenTo, Leads, ObeysAll, StaysAt, TakesNext}
 use Rattle.usb_plans.specs.PlanRuns.{PlanState, entries_of, of_option, ShowsStage, StandsFor, is_verdict}
 use Rattle.proof_model.proofs.Callbacks.{calls_once}
 use Rattle.proof_laws.proofs.Given.{calls_after_number}
 use Rattle.proof_model.proofs.Callbacks.{calls_in_order}
-use Rattle.proof_laws.proofs.Plans.{AreFixed, expands_only, may_expand, may_expand_from}
+use Rattle.proof_laws.proofs.Plans.{AreFixed, expands_only, may_expand_from}
 use Rattle.usb_plans.proofs.TakenCallbacks.{Takes, has_one, takes}
 
 -- what holds of every run
@@ -55,15 +54,10 @@ stands_first : (setup : Setup) (s : Stage) (piece : Plan) (steps : List Step) �
 stands_first setup s (Do step) steps is = (step, [], is)
 stands_first setup s (Return h n) steps (v, fits, is) = let f = return_first setup s.world h n v in (Answer h n v, f.0, is ∙ f.1)
 
-steps_first : (setup : Setup) (s : Stage) (piece : Plan) → (first : Step) × (rest : List Step) × (steps_of setup s piece ≡ first ∷ rest)
-steps_first setup s (Do step) = (step, [], refl)
-steps_first setup s (Return h n) = let v : Verdict = verdict_by (returning s h n) (s.book h n) in let f = return_first setup s.world h n v in (Answer h n v, f.0, f.1)
-
--- a run has an entry for each step
-entry_each : (setup : Setup) (w : World) (steps : List Step) → length (run_from setup w steps) ≡ length steps
-unfolding journal_from
-entry_each setup w [] = refl
-entry_each setup w (step ∷ steps) = ap suc (entry_each setup (turn setup w step).world steps)
+-- one piece more behind some
+leads_more : (setup : Setup) (s : Stage) (before : List Plan) (steps : List Step) (t : Stage) (piece : Plan) (here : List Step) → Leads setup s before steps t → StandsFor setup t piece here → Leads setup s (before ++ piece ∷ []) (steps ++ here) (stage_after setup t piece here)
+leads_more setup s [] steps t piece here (none, same) stands = (here, [], subst (λ x. StandsFor setup x piece here) same stands, ap (λ l. l ++ here) none ∙ sym (append-nil here), (refl, ap (λ x. stage_after setup x piece here) same))
+leads_more setup s (p ∷ ps) steps t piece here (first, more, stand, is, rest) stands = (first, more ++ here, stand, ap (λ l. l ++ here) is ∙ append_assoc first more here, leads_more setup (stage_after setup s p first) ps more t piece here rest stands)
 
 pub piece_rules : (setup : Setup) (s : Stage) (piece : Plan) (steps : List Step) → StandsFor setup s piece steps → (stage_after setup s piece steps).rules ≡ rules_after piece s.rules
 unfolding stage_after
@@ -94,6 +88,9 @@ module _ {P : Type 0} (rule : P → Rule) (setup : Setup) (plan : List Plan) (ru
     pub under : stage.rules ≡ map rule left
     pub enough : length left ≡ count_by is_submission ahead
     pub no_verdict : AllByRecursion (λ piece. is_verdict piece ≡ false) ahead
+    pub before : List Plan
+    pub parts : plan ≡ before ++ ahead
+    pub leads : Leads setup (first_stage setup rules) before steps stage
 
   -- none was
   pub none_yet : (v : PlanState P) (ahead : List Plan) (left : List P) → ahead ≡ plan → ((rs : List Rule) → ShowsStage rule setup v (first_stage setup rs)) → rules ≡ map rule left → length left ≡ count_by is_submission plan
@@ -112,6 +109,9 @@ module _ {P : Type 0} (rule : P → Rule) (setup : Setup) (plan : List Plan) (ru
         under = under;
         enough = enough;
         no_verdict = none;
+        before = [];
+        parts = refl;
+        leads = (refl, refl);
       }
 
   -- a piece that submits has its callback
@@ -143,6 +143,9 @@ module _ {P : Type 0} (rule : P → Rule) (setup : Setup) (plan : List Plan) (ru
         under = piece_rules setup r.stage piece here stands ∙ taken.left;
         enough = taken.enough;
         no_verdict = (subst (AllByRecursion (λ p. is_verdict p ≡ false)) comes r.no_verdict).1;
+        before = r.before ++ piece ∷ [];
+        parts = r.parts ∙ (ap (λ l. r.before ++ l) comes ∙ sym (append_assoc r.before (piece ∷ []) beyond));
+        leads = leads_more setup (first_stage setup rules) r.before r.steps r.stage piece here r.leads stands;
       }
 
   -- the whole plan
@@ -182,51 +185,24 @@ module _ {P : Type 0} (rule : P → Rule) (setup : Setup) (plan : List Plan) (ru
       begun = (run_from setup (world_from setup (new_world setup) r.steps) more, run_append setup (new_world setup) r.steps more ∙ sym (ap (λ l. l ++ run_from setup (world_from setup (new_world setup) r.steps) more) r.run))
 
   -- no memory was found at a piece
-  pub stopped : (v : PlanState P) (es : List Entry) (ahead beyond : List Plan) (left : List P) (piece : Plan) → ahead ≡ piece ∷ beyond → Reached v es ahead left → IsDrivenTo setup plan rules es
-  unfolding journal expand_from
-  stopped v es ahead beyond left piece comes r = record {
-    steps = steps;
+  pub stopped : (v new : PlanState P) (es : List Entry) (ahead beyond : List Plan) (left : List P) (piece : Plan) → ahead ≡ piece ∷ beyond → Reached v es ahead left → StaysAt rule v piece new → IsDrivenTo rule setup plan rules es new
+  stopped v new es ahead beyond left piece comes r stays = record {
+    before = r.before;
+    piece = piece;
+    behind = beyond;
+    parts = r.parts ∙ ap (λ l. r.before ++ l) comes;
+    steps = r.steps;
+    stage = r.stage;
+    leads = r.leads;
+    told = r.run;
+    shows = stays setup r.stage r.shows;
+    rest = expand_from setup r.stage ahead;
     may = may;
-    only = λ fixed. expands_only setup plan rules fixed steps may;
-    begins = begun;
-    run = first_steps setup es steps begun;
-    left = inr fewer;
+    only = λ fixed. expands_only setup plan rules fixed (r.steps ++ expand_from setup r.stage ahead) may;
   }
     where
-      more : List Step
-      more = expand_from setup r.stage ahead
-
-      steps : List Step
-      steps = r.steps ++ more
-
-      may : Expands setup plan rules steps
-      may = r.joins more (may_expand_from setup r.stage ahead)
-
-      begun : IsBeginning es (world_run setup steps)
-      begun = (run_from setup (world_from setup (new_world setup) r.steps) more, run_append setup (new_world setup) r.steps more ∙ sym (ap (λ l. l ++ run_from setup (world_from setup (new_world setup) r.steps) more) r.run))
-
-      first : (x : Step) × (xs : List Step) × (steps_of setup r.stage piece ≡ x ∷ xs)
-      first = steps_first setup r.stage piece
-
-      begins : more ≡ first.0 ∷ (first.1 ++ expand_from setup (stage_after setup r.stage piece (steps_of setup r.stage piece)) beyond)
-      begins = ap (expand_from setup r.stage) comes ∙ ap (λ l. l ++ expand_from setup (stage_after setup r.stage piece (steps_of setup r.stage piece)) beyond) first.2
-
-      fewer : length es < length steps
-      fewer = omega (arith, ap length r.run, entry_each setup (new_world setup) r.steps, length-append r.steps more, ap length begins)
-
-  -- nor for the core itself
-  pub none_stopped : (es : List Entry) → es ≡ [] → IsDrivenTo setup plan rules es
-  none_stopped es none = record {
-    steps = expand_from setup (first_stage setup rules) plan;
-    may = may_expand setup plan rules;
-    only = λ fixed. refl;
-    begins = begun;
-    run = first_steps setup es (expand_from setup (first_stage setup rules) plan) begun;
-    left = inl none;
-  }
-    where
-      begun : IsBeginning es (world_run setup (expand_from setup (first_stage setup rules) plan))
-      begun = (world_run setup (expand_from setup (first_stage setup rules) plan), rw none refl)
+      may : Expands setup plan rules (r.steps ++ expand_from setup r.stage ahead)
+      may = r.joins (expand_from setup r.stage ahead) (may_expand_from setup r.stage ahead)
 
 -- one entry of a piece was put beyond the others
 pub one_told : {P : Type 0} (x : Performed P) (before after : List Entry) → x.stop ≡ None → after ≡ before ++ x.entry ∷ [] → after ≡ before ++ entries_of x

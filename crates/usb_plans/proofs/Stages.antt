@@ -23,7 +23,7 @@ use Rattle.usb_core.specs.declared.results.Taken.{Taken}
 use Rattle.usb_tables.specs.declared.transfer.Transfer.{Transfer as InFlight}
 use Rattle.usb_tables.specs.TransfersInFlight.{EndedOf}
 use Rattle.usb_core.specs.Steps.{GoesOut, first_payload, handed_out, kept_after, kept_by}
-use Rattle.usb_plans.specs.PlanRuns.{IsRunning, IsRunningBut, IsUnder, MakesAnswer, MakesStep, PlanState, RunBehindStep, RunsToo, ShowsBut, ShowsStage, nowhere, running_at, still_called}
+use Rattle.usb_plans.specs.PlanRuns.{IsRunning, IsRunningBut, IsUnder, MakesAnswer, MakesStep, NameRuns, PlanState, RunBehindStep, RunsToo, ShowsBut, ShowsStage, nowhere, running_at, still_called}
 use Rattle.proof_laws.specs.InCallbacks.{AnswerEnds, CallsBack, IsReached, IsTold, KeepsCallbacks, SameCallbacks, TakeCalls, callback_at, ends_callback, is_answer, is_of_callback, is_there}
 use Rattle.proof_laws.proofs.InCallbacks.{keeps_callbacks}
 use Rattle.proof_laws.proofs.Takes.{is_take, no_call}
@@ -70,11 +70,11 @@ module _ {P : Type 0} (rule : P → Rule) where
   under_by kept book true (Some h) _ payload its gives given under all = all
 
   -- a callback that runs is kept under its name and number
-  abbrev AreKept : List (List (ℕ × Taken P)) → Kept P → Type 0
+  abbrev AreKept : List (NameRuns P) → Kept P → Type 0
   AreKept running kept = (h n : ℕ) (t : Taken P) → running_at running h n ≡ Some t → kept h n ≡ Some t.payload
 
   -- also behind an entry, whose number runs nowhere
-  kept_stays : (running : List (List (ℕ × Taken P))) (kept : Kept P) (takes : Bool) (owner : Option ℕ) (r : Reply) (payload : Option P) → ((h n : ℕ) → owner ≡ Some h → r ≡ reply.Number n → running_at running h n ≡ None)
+  kept_stays : (running : List (NameRuns P)) (kept : Kept P) (takes : Bool) (owner : Option ℕ) (r : Reply) (payload : Option P) → ((h n : ℕ) → owner ≡ Some h → r ≡ reply.Number n → running_at running h n ≡ None)
       → AreKept running kept → AreKept running (kept_by kept takes owner r payload)
   kept_stays running kept true (Some h) (reply.Number n) (Some p) fresh its = λ g m t e. by_test g m t e ((h == g) && (n == m)) refl
     where
@@ -191,18 +191,18 @@ hands_out core _ none = refl
 
 module _ {P : Type 0} (rule : P → Rule) where
   -- where none comes out, those run that ran
-  none_comes : (r : Reply) (out : Option P) (old new : List (List (ℕ × Taken P))) → out ≡ None → RunsToo r out old new → (h n : ℕ) → running_at new h n ≡ running_at old h n
+  none_comes : (r : Reply) (out : Option P) (old new : List (NameRuns P)) → out ≡ None → RunsToo r out old new → (h n : ℕ) → running_at new h n ≡ running_at old h n
   none_comes (reply.Called r) None old new none runs = runs
   none_comes _ None old new none runs = runs
   none_comes r (Some c) old new none runs = absurd cc
 
   -- the callbacks that run behind a step, and what is kept of them
-  record RunBehind (w after : World) (old new : List (List (ℕ × Taken P))) (kept : Kept P) : Type 0 where
+  record RunBehind (w after : World) (old new : List (NameRuns P)) (kept : Kept P) : Type 0 where
     running : (h n : ℕ) → IsRunning (running_at new h n) (callback_at after h n)
     its : AreKept rule new kept
 
   -- where no transfer comes into its callback, or leaves it
-  same_run : (w after : World) (old new : List (List (ℕ × Taken P))) (kept : Kept P) → ((h n : ℕ) → running_at new h n ≡ running_at old h n) → SameCallbacks w after → ((h n : ℕ) → IsRunning (running_at old h n) (callback_at w h n))
+  same_run : (w after : World) (old new : List (NameRuns P)) (kept : Kept P) → ((h n : ℕ) → running_at new h n ≡ running_at old h n) → SameCallbacks w after → ((h n : ℕ) → IsRunning (running_at old h n) (callback_at w h n))
       → AreKept rule old kept → RunBehind w after old new kept
   same_run w after old new kept same stays runs its = record {
     running = λ h n. subst (λ o. IsRunning o (callback_at after h n)) (sym (same h n)) (subst (IsRunning (running_at old h n)) (sym (stays h n)) (runs h n));
@@ -210,7 +210,7 @@ module _ {P : Type 0} (rule : P → Rule) where
   }
 
   -- where one does
-  one_runs : (r : Returned) (c : P) (w after : World) (old new : List (List (ℕ × Taken P))) (kept : Kept P) → RunsToo (reply.Called r) (Some c) old new → CallsBack r w after → kept r.h r.n ≡ Some c
+  one_runs : (r : Returned) (c : P) (w after : World) (old new : List (NameRuns P)) (kept : Kept P) → RunsToo (reply.Called r) (Some c) old new → CallsBack r w after → kept r.h r.n ≡ Some c
       → ((h n : ℕ) → IsRunning (running_at old h n) (callback_at w h n)) → AreKept rule old kept → RunBehind w after old new kept
   one_runs r c w after old new kept more calls its_is runs its = record {
     running = λ h n. by_test h n (is_there r.h r.n h n) refl (more h n);
@@ -239,7 +239,7 @@ module _ {P : Type 0} (rule : P → Rule) where
       kept_test h n t false differ e = its h n t e
 
   -- behind a Take
-  take_runs : (setup : Setup) (w after : World) (core : State P) (r : Reply) (out : Option P) (old new : List (List (ℕ × Taken P))) (kept : Kept P) → ShowsWorld setup core w → out ≡ first_payload core → GoesOut kept out r
+  take_runs : (setup : Setup) (w after : World) (core : State P) (r : Reply) (out : Option P) (old new : List (NameRuns P)) (kept : Kept P) → ShowsWorld setup core w → out ≡ first_payload core → GoesOut kept out r
       → r ≡ (turn setup w Take).entry.reply → TakeCalls r w after → RunsToo r out old new → ((h n : ℕ) → IsRunning (running_at old h n) (callback_at w h n)) → AreKept rule old kept → RunBehind w after old new kept
   take_runs setup w after core (reply.Called r) (Some c) old new kept shown out_is goes reply_is calls more runs its = one_runs r c w after old new kept more calls goes runs its
   take_runs setup w after core (reply.Called r) None old new kept shown out_is goes reply_is calls more runs its =

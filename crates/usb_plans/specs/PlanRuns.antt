@@ -1,5 +1,6 @@
 -- What is kept amid a plan, and the stage of the plan that it shows.
-use Rattle.std.specs.Prelude.{◌≡◌, ℕ, Bool, true, false, nat_eq, List, [], ◌∷◌, Option, Some, None, IfSome, slice_index_or, if◌then◌else◌}
+use Rattle.std.specs.Prelude.{◌≡◌, ℕ, ◌<◌, ◌≤◌, Bool, true, false, nat_eq, List, [], ◌∷◌, length, Option, Some, None, IfSome, slice_get, slice_index_or, if◌then◌else◌}
+use Rattle.std.specs.Option.{option_map_or}
 use Rattle.std.specs.Map.{lookup}
 use Rattle.usb_model.specs.declared.entry.Entry.{Entry}
 use Rattle.usb_model.specs.declared.plan.Plan.{Plan}
@@ -9,6 +10,7 @@ use Rattle.usb_model.specs.declared.reply.Reply.TheVariants.{Called}
 use Rattle.usb_model.specs.declared.reply.Returned.{Returned}
 use Rattle.usb_model.specs.declared.result.InCallback.{InCallback}
 use Rattle.usb_model.specs.declared.step.Step.{Step}
+use Rattle.usb_model.specs.declared.step.Step.TheVariants.{Take}
 use Rattle.usb_model.specs.declared.verdict.Rule.{Rule}
 use Rattle.usb_model.specs.declared.verdict.Verdict.{Verdict}
 use Rattle.usb_model.specs.Numbers.{takes_payload}
@@ -16,7 +18,7 @@ use Rattle.usb_model.specs.Setup.{Setup}
 use Rattle.usb_model.specs.World.{World, turn}
 use Rattle.usb_model.specs.World.Journal.{run_from}
 use Rattle.usb_model.specs.World.Plans.{FitsReturn, Stage, first_rule, is_submission, noted, return_steps, returning, stage_after}
-use Rattle.usb_core.specs.Public.{Carries, Kept, ShowsWorld, State}
+use Rattle.usb_core.specs.Public.{Carries, Kept, ShowsWorld, State, StillCarries}
 use Rattle.usb_core.specs.Steps.{left_over}
 use Rattle.usb_core.specs.declared.results.Taken.{Taken}
 use Rattle.usb_plans.specs.declared.plan_run.Performed.{Performed}
@@ -32,10 +34,15 @@ abbrev pub StandsFor : Setup → Stage → Plan → List Step → Type 0
 StandsFor setup s (Do step) steps = steps ≡ step ∷ []
 StandsFor setup s (Return h n) steps = (v : Verdict) × FitsReturn (returning s h n) (s.book h n) v × (steps ≡ return_steps setup s.world h n v)
 
--- what is kept amid a plan: the core, and by name and number the callbacks that run, each with what it is told
+-- the callbacks of one name that run, by number, each with what it is told; and for how many more there is room
+pub record NameRuns (P : Type 0) : Type 0 where
+  pub callbacks : List (ℕ × Taken P)
+  pub room : ℕ
+
+-- what is kept amid a plan: the core, and by name the callbacks that run
 pub record PlanState (P : Type 0) : Type 0 where
   pub core : State P
-  pub running : List (List (ℕ × Taken P))
+  pub running : List (NameRuns P)
 
 -- the value that an option has, as a list
 abbrev pub of_option : {A : Type 0} → Option A → List A
@@ -64,17 +71,34 @@ still_called false h n g m = is_there h n g m
 abbrev pub stage_behind : Setup → Stage → Step → Rule → List Rule → Stage
 stage_behind setup s step r rules = record { world = (turn setup s.world step).world; book = noted s.book (turn setup s.world step).entry r; rules = rules }
 
+-- how many bytes the next result has
+abbrev pub next_bytes : World → ℕ
+next_bytes w = option_map_or (λ t. length t.piece.bytes) (slice_get w.results 0) 0
+
+-- the callback that is called by a piece: of a return, that of its name and number
+abbrev pub called_by : Plan → (h n : ℕ) → Bool
+called_by (Do step) h n = false
+called_by (Return g m) h n = is_there g m h n
+
 module _ {P : Type 0} where
   -- one name's callback of this number
-  abbrev pub running_in : List (ℕ × Taken P) → ℕ → Option (Taken P)
-  running_in xs n = lookup (nat_eq n) xs
+  abbrev pub running_in : NameRuns P → ℕ → Option (Taken P)
+  running_in xs n = lookup (nat_eq n) xs.callbacks
+
+  -- those of a name; none where there is no such name
+  abbrev pub runs_of : List (NameRuns P) → (h : ℕ) → NameRuns P
+  runs_of v h = slice_index_or v h (record { callbacks = []; room = 0 })
 
   -- the callback of this name and number
-  abbrev pub running_at : List (List (ℕ × Taken P)) → (h n : ℕ) → Option (Taken P)
-  running_at v h n = running_in (slice_index_or v h []) n
+  abbrev pub running_at : List (NameRuns P) → (h n : ℕ) → Option (Taken P)
+  running_at v h n = running_in (runs_of v h) n
+
+  -- for how many more of a name there is room
+  abbrev pub room_of : List (NameRuns P) → (h : ℕ) → ℕ
+  room_of v h = (runs_of v h).room
 
   -- the callbacks that run behind an entry with this reply: the one that came out runs too
-  abbrev pub RunsToo : Reply → Option P → (old new : List (List (ℕ × Taken P))) → Type 0
+  abbrev pub RunsToo : Reply → Option P → (old new : List (NameRuns P)) → Type 0
   RunsToo (Called r) (Some c) old new = (h n : ℕ) → running_at new h n ≡ (if is_there r.h r.n h n then Some (record { returned = r; payload = c }) else running_at old h n)
   RunsToo reply out old new = (h n : ℕ) → running_at new h n ≡ running_at old h n
 
@@ -88,6 +112,15 @@ module _ {P : Type 0} where
     pub callback : P
     pub its : (kept : Kept P) → Carries kept old.core → kept r.h r.n ≡ Some callback
     pub runs : (h n : ℕ) → running_at new.running h n ≡ (if is_there r.h r.n h n then Some (record { returned = r; payload = callback }) else running_at old.running h n)
+
+  -- what the next result needs: memory for a copy of its bytes, and room for its callback, which then runs
+  pub record HasRoom (v : PlanState P) (memory : ℕ) : Type 0 where
+    pub bytes : (setup : Setup) (w : World) → ShowsWorld setup v.core w → next_bytes w ≤ memory
+    pub callback : (setup : Setup) (w : World) → ShowsWorld setup v.core w → IfSome (slice_get w.results 0) (λ x. 0 < room_of v.running x.name)
+
+  -- nothing that a core shows or carries changed, if there was memory for a copy of what goes out by the step
+  abbrev pub StaysWith : Step → (memory : ℕ) → State P → State P → Type 0
+  StaysWith step memory old new = (setup : Setup) (w : World) → ShowsWorld setup old w → (step ≡ Take → next_bytes w ≤ memory) → ShowsWorld setup new w × StillCarries old new
 
   -- the callbacks that run behind a step with this reply: those that ran; and where it is that one was called, this one
   abbrev pub RunBehindStep : Reply → (old new : PlanState P) → Type 0
@@ -130,6 +163,14 @@ module _ {P : Type 0} where
     -- a stage of a plan is shown
     abbrev pub ShowsStage : Setup → PlanState P → Stage → Type 0
     ShowsStage setup v s = ShowsBut setup nowhere v s
+
+    -- what was shown of a stage still is
+    abbrev pub StillShows : PlanState P → PlanState P → Type 0
+    StillShows old new = (setup : Setup) (called : (h n : ℕ) → Bool) (s : Stage) → ShowsBut setup called old s → ShowsBut setup called new s
+
+    -- no memory was found for a piece: the stage before it is still shown, but for the callback of a return, which was called
+    abbrev pub FindsNone : PlanState P → Plan → PlanState P → Type 0
+    FindsNone old piece new = (setup : Setup) (s : Stage) → ShowsStage setup old s → ShowsBut setup (called_by piece) new s
 
     -- the callback that is given, if one is, has this rule
     abbrev pub IsUnder : Rule → Option P → Type 0

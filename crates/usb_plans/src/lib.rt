@@ -12,9 +12,9 @@
 //! - `comparison.rt`, `own_plan.rt`, specs/Alone: a handle amid the others, and then alone over the same devices: of
 //!   a list of steps; of a plan, with callbacks of its own
 //! - `twins.rt`, specs/Alone: the same of a plan, side by side and piece by piece
-//! - proofs/: what a piece stands for, and the stage behind it (OnlySteps, Stages, ToldVerdicts); which callbacks run (TakenCallbacks,
-//!   NoneRuns); how far a run and a plan are, a handle's part of either, and a run beside another (Reached, Apart, OwnPlans, ApartPlans,
-//!   BothRuns)
+//! - proofs/: what a piece stands for, and the stage behind it (OnlySteps, Stages, ToldVerdicts), or before it, where no memory is
+//!   found (StillShown); which callbacks run (TakenCallbacks, NoneRuns); how far a run and a plan are, a handle's part of either, and
+//!   a run beside another (Reached, Apart, OwnPlans, ApartPlans, BothRuns)
 //!
 //! # Contracts
 //!
@@ -26,7 +26,8 @@
 //!   give (`may_answer`), and the entries are those of just this verdict (`called`). Where a step's entry is that a
 //!   callback is called, there then runs under its name and number the callback that was kept with the transfer, with
 //!   this result, and all others as before; behind any other step the same ones run; behind a return all but the one
-//!   that returned (`out`). Premises: a submission has a callback, and no piece is a verdict by itself
+//!   that returned (`out`). Where memory is refused the stage before the piece is still shown, but for the callback of a return,
+//!   which was called and is dropped (`none`). Premises: a submission has a callback, and no piece is a verdict by itself
 //! - `PlanRun::into_setup`: the devices that are handed back are those over which the run showed its stages: a core
 //!   or a run that is made of them begins anew. Each endpoint that a device has stands as the stage's world has it,
 //!   as by `Core::into_setup`
@@ -34,8 +35,9 @@
 //! - `drive`: the entries of a plan are the run of steps that it may stand for under its callbacks' rules
 //!   (`Expands`); of the only ones, `expand`, where no rule is Free. Of these steps all laws hold: what each handle
 //!   sees is what it sees alone, each transfer is called back at most once, after its number, in order; the cut, the
-//!   places, the bound of asks. Where memory is refused, the entries are those of the first so many steps, and a step
-//!   is left. Premises: as many callbacks as submissions, and no piece that is a verdict
+//!   places, the bound of asks. Where memory is refused, `StoppedDrive` has the entries of all pieces before one that
+//!   is left, and the run, which shows the stage behind just these pieces, but for the callback of a return (`IsStopped`); or the
+//!   run wasn't begun, and there are no entries. Premises: as many callbacks as submissions, and no piece that is a verdict
 //! - `alone`: by two runs over the same devices, of all steps and then of the handle's own, each by a new core: a
 //!   handle's entries amid the others (`shared`) are `entries` of the run, those of its own steps by themselves
 //!   (`alone`) are the run of `own` and what the definitions' machine says; both are equal, and each callback stands
@@ -61,7 +63,7 @@ mod running_callbacks;
 mod twins;
 
 pub use comparison::{Comparison, alone};
-pub use drives::{drive, next_callback};
+pub use drives::{StoppedDrive, drive, next_callback};
 pub use own_plan::drive_alone;
 pub use plan_run::{Performed, PlanRun, copy_of};
 pub use twins::{TwinPiece, Twins};

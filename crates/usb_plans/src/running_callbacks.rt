@@ -1,7 +1,7 @@
 //! The callbacks that run: they came out with their transfers, and their verdicts aren't made yet.
 
-ghost use Rattle.std.specs.Prelude.{◌≡◌, ℕ, ◌==◌, None, Some, IfOk, if◌then◌else◌};
-ghost use Rattle.usb_plans.specs.PlanRuns.{running_at, running_in};
+ghost use Rattle.std.specs.Prelude.{◌≡◌, ℕ, ◌<◌, ◌==◌, None, Some, IfOk, IsOk, OnOk, if◌then◌else◌};
+ghost use Rattle.usb_plans.specs.PlanRuns.{room_of, running_at, running_in};
 ghost use Rattle.proof_laws.specs.InCallbacks.{is_there};
 
 use std::alloc::{AllocError, Global};
@@ -17,12 +17,12 @@ struct NameCallbacks<C> {
 }
 
 impl<C> Model for NameCallbacks<C> {
-    ghost use Rattle.std.specs.Prelude.{ℕ, List};
-    ghost use Rattle.usb_core.specs.declared.results.Taken.{Taken};
+    ghost use Rattle.std.specs.HashMap.{spare};
+    ghost use Rattle.usb_plans.specs.PlanRuns.{NameRuns};
 
-    ghost Value = { List (ℕ × Taken C) };
+    ghost Value = { NameRuns C };
 
-    ghost view = { λ c. c.by_number.entries };
+    ghost view = { λ c. record { callbacks = c.by_number.entries; room = spare c.by_number } };
 }
 
 impl<C: Drop> NameCallbacks<C> {
@@ -35,9 +35,18 @@ impl<C: Drop> NameCallbacks<C> {
         }
     }
 
-    /// A callback runs.
+    /// Asks for room for one more. Those run that ran, whether there is memory or not.
+    fn reserve(&mut self) -> Result<(), AllocError>
+        ensures ok { OnOk result (0 < self.new.room) }
+        ensures same { (k : ℕ) → running_in self.new k ≡ running_in self.old k }
+    {
+        self.by_number.reserve(1)
+    }
+
+    /// A callback runs. Where there is room for one more, it takes no memory.
     fn put(&mut self, taken: Taken<C>) -> Result<(), AllocError>
-        ensures { IfOk result (λ _. (k : ℕ) → running_in self.new k ≡ (if taken.returned.n == k then Some taken else running_in self.old k)) }
+        ensures runs { IfOk result (λ _. (k : ℕ) → running_in self.new k ≡ (if taken.returned.n == k then Some taken else running_in self.old k)) }
+        ensures succeeds { 0 < self.old.room → IsOk result }
     {
         self.by_number.insert(taken.returned.n, taken)?;
         Ok(())
@@ -59,10 +68,10 @@ pub(crate) struct RunningCallbacks<C> {
 }
 
 impl<C> Model for RunningCallbacks<C> {
-    ghost use Rattle.std.specs.Prelude.{◌≡◌, ℕ, List, length};
-    ghost use Rattle.usb_core.specs.declared.results.Taken.{Taken};
+    ghost use Rattle.std.specs.Prelude.{◌≡◌, List, length};
+    ghost use Rattle.usb_plans.specs.PlanRuns.{NameRuns};
 
-    ghost Value = { List (List (ℕ × Taken C)) };
+    ghost Value = { List (NameRuns C) };
 
     ghost view = { λ t. t.names.items };
 
@@ -81,9 +90,19 @@ impl<C: Drop> RunningCallbacks<C> {
         Ok(RunningCallbacks { names })
     }
 
-    /// A callback of this name runs.
+    /// Asks for room for one more of this name. Those run that ran, whether there is memory or not.
+    pub(crate) fn reserve(&mut self, h: Name) -> Result<(), AllocError>
+        ensures ok { OnOk result (0 < room_of self.new h) }
+        ensures same { (g k : ℕ) → running_at self.new g k ≡ running_at self.old g k }
+    {
+        let callbacks = &mut self.names[usize::from(h.number())];
+        callbacks.reserve()
+    }
+
+    /// A callback of this name runs. Where there is room for one more of the name, it takes no memory.
     pub(crate) fn put(&mut self, h: Name, taken: Taken<C>) -> Result<(), AllocError>
-        ensures { IfOk result (λ _. (g k : ℕ) → running_at self.new g k ≡ (if is_there h taken.returned.n g k then Some taken else running_at self.old g k)) }
+        ensures runs { IfOk result (λ _. (g k : ℕ) → running_at self.new g k ≡ (if is_there h taken.returned.n g k then Some taken else running_at self.old g k)) }
+        ensures succeeds { 0 < room_of self.old h → IsOk result }
     {
         let callbacks = &mut self.names[usize::from(h.number())];
         callbacks.put(taken)

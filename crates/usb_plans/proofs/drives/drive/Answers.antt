@@ -2,12 +2,8 @@
 use Rattle.std.proofs.Common.{length, map, sym, ap, ◌∙◌}
 use Rattle.std.specs.Vec.Iter.{into_iter_items}
 use Rattle.usb_core.specs.Public.{setup_of}
-use Rattle.usb_plans.proofs.Reached.{all, has_callback, is_no_verdict, none_ahead, none_stopped, none_yet, one_more, stopped}
+use Rattle.usb_plans.proofs.Reached.{all, has_callback, is_no_verdict, none_ahead, none_yet, one_more, stopped}
 use Rattle.usb_plans.proofs.drives.drive.Goals as goal
-
-pub returns-in_default-clause-stopped : goal.returns-in_default-clause-stopped
-returns-in_default-clause-stopped g c =
-    none_stopped g.C.Callback.rule (setup_of c.args.setup) c.args.plan.items (map g.C.Callback.rule c.args.callbacks.items) c.from_vec.result (c.from_vec.ensures ∙ c.new-entries.ensures.items)
 
 pub loop-piece-init : goal.loop-piece-init
 loop-piece-init g c = rw c.new-entries.ensures.items
@@ -26,8 +22,8 @@ advance-requires-clause-no_verdict g c =
 
 pub returns-in_default-advance-clause-stopped : goal.returns-in_default-advance-clause-stopped
 returns-in_default-advance-clause-stopped g c = rw (c.from_vec-in_default-advance.ensures, c.in_default-advance.ensures.kept)
-    (stopped g.C.Callback.rule (setup_of c.args.setup) c.args.plan.items (map g.C.Callback.rule c.args.callbacks.items) c.loop-piece.run c.loop-piece.entries.items (into_iter_items c.loop-piece.piece-iterator) (into_iter_items c.next.new.self)
-    (into_iter_items c.loop-piece.left) c.in-Some.piece c.in-Some.ensures.steps.0 c.loop-piece.invariant)
+    (stopped g.C.Callback.rule (setup_of c.args.setup) c.args.plan.items (map g.C.Callback.rule c.args.callbacks.items) c.loop-piece.run c.advance.new.run c.loop-piece.entries.items (into_iter_items c.loop-piece.piece-iterator) (into_iter_items c.next.new.self)
+    (into_iter_items c.loop-piece.left) c.in-Some.piece c.in-Some.ensures.steps.0 c.loop-piece.invariant c.in_default-advance.ensures.stays)
 
 pub loop-piece-preserved : goal.loop-piece-preserved
 loop-piece-preserved g c =

@@ -20,3 +20,6 @@ returns-in-Ok-clause-out g c = sym (none_goes c.args.core.now c.args.step c.in_d
 
 pub returns-in-Ok-clause-goes_out : goal.returns-in-Ok-clause-goes_out
 returns-in-Ok-clause-goes_out g c = λ kept has. tt
+
+pub returns-in-Take-clause-stays : goal.returns-in-Take-clause-stays
+returns-in-Take-clause-stays g c = rw c.in-Take.is c.take_step.ensures.stays

@@ -1,5 +1,7 @@
 use Rattle.std.proofs.Common.{sym, ap, ◌∙◌}
-use Rattle.usb_plans.specs.PlanRuns.{is_verdict}
+use Rattle.usb_model.specs.declared.plan.Plan.TheVariants.{Do}
+use Rattle.usb_plans.specs.PlanRuns.{FindsNone, StillShows, is_verdict}
+use Rattle.usb_plans.proofs.StillShown.{no_do, on_err_so}
 use Rattle.usb_plans.proofs.ToldVerdicts.{calls_none, step_result}
 use Rattle.usb_plans.proofs.plan_run.PlanRun.perform.Goals as goal
 
@@ -27,3 +29,10 @@ returns-in-Do-clause-back g c = rw c.in-Do.is c.make.ensures.back
 
 pub returns-in-Return-clause-back : goal.returns-in-Return-clause-back
 returns-in-Return-clause-back g c = rw c.in-Return.is c.return_callback.ensures.back
+
+pub returns-in-Do-clause-none : goal.returns-in-Do-clause-none
+returns-in-Do-clause-none g c = rw c.in-Do.is
+    (on_err_so c.make.result (StillShows g.C.Callback.rule c.args.self.now c.make.new.self) (FindsNone g.C.Callback.rule c.args.self.now (Do c.in-Do.step) c.make.new.self) (no_do g.C.Callback.rule c.args.self.now c.make.new.self c.in-Do.step) c.make.ensures.stays)
+
+pub returns-in-Return-clause-none : goal.returns-in-Return-clause-none
+returns-in-Return-clause-none g c = rw c.in-Return.is c.return_callback.ensures.none
