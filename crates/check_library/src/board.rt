@@ -12,13 +12,13 @@ use std::sync::Wait;
 use usb_core::Taken;
 use usb_device::Device;
 use usb_journal::{Naming, Past, RecordError, Recorder, Row};
-use usb_library::{Answered, Caller, Library, Submitted};
+use usb_library::{Answered, Caller, Library, Payload, Submitted};
 use usb_model::{Bytes, DeviceNo, EpAddr, Name, Refused, Request, Step};
 use usb_workers::make;
 
 /// A library, one of its callers, and the handle by which the lock is taken.
 #[derive(Drop)]
-pub struct Board<'a, R, L: Naming, P, D: Device, J: Recorder> {
+pub struct Board<'a, R, L: Naming, P: Payload, D: Device, J: Recorder> {
     pub rt: &'a R,
     pub library: &'a Library<L, P, D, J>,
     pub caller: &'a mut Caller<L>,
@@ -42,7 +42,7 @@ fn number<L: Naming, G: Drop, P: Drop>(
     }
 }
 
-impl<'a, R: Wait, L: Naming, P: Drop, D: Device, J: Recorder> Board<'a, R, L, P, D, J> {
+impl<'a, R: Wait, L: Naming, P: Payload, D: Device, J: Recorder> Board<'a, R, L, P, D, J> {
     /// A caller at a library.
     pub fn new(
         rt: &'a R,
@@ -68,7 +68,9 @@ impl<'a, R: Wait, L: Naming, P: Drop, D: Device, J: Recorder> Board<'a, R, L, P,
 
     /// Submits a transfer: its number.
     #[inline(never)]
-    pub fn submit(&mut self, h: Name, request: Request, payload: P) -> Result<u64, Refused> {
+    pub fn submit(&mut self, h: Name, request: Request, payload: P) -> Result<u64, Refused>
+        requires suits { P.Whom.suits payload h }
+    {
         number(
             self.library
                 .submit(self.rt, self.caller, h, request, payload),
@@ -76,18 +78,16 @@ impl<'a, R: Wait, L: Naming, P: Drop, D: Device, J: Recorder> Board<'a, R, L, P,
     }
 
     /// Submits the transfer of a callback once more: its new number.
-    pub fn again(&mut self, h: Name, n: u64, payload: P) -> Result<u64, Refused> {
+    pub fn again(&mut self, h: Name, n: u64, payload: P) -> Result<u64, Refused>
+        requires suits { P.Whom.suits payload h }
+    {
         number(self.library.again(self.rt, self.caller, h, n, payload))
     }
 
     /// The same with other bytes.
-    pub fn again_with(
-        &mut self,
-        h: Name,
-        n: u64,
-        bytes: Bytes,
-        payload: P,
-    ) -> Result<u64, Refused> {
+    pub fn again_with(&mut self, h: Name, n: u64, bytes: Bytes, payload: P) -> Result<u64, Refused>
+        requires suits { P.Whom.suits payload h }
+    {
         number(
             self.library
                 .again_with(self.rt, self.caller, h, n, bytes, payload),

@@ -3,6 +3,7 @@
 use crate::signals::{Mark, Signals};
 use std::sync::atomic::{AtomicU64, Ordering};
 use usb_core::{Callback, Due, End};
+use usb_library::{Anyone, Payload};
 use usb_model::{Refused, Rule, StatusSet, Verdict};
 
 /// What a callback does.
@@ -62,6 +63,11 @@ impl<'a> SceneCallback<'a> {
             _ => {}
         }
     }
+}
+
+/// It may be kept with each name's transfers.
+impl<'a> Payload for SceneCallback<'a> {
+    type Whom = Anyone;
 }
 
 impl<'a> Callback for SceneCallback<'a> {

@@ -20,7 +20,7 @@ use usb_model::Refused;
 const CALLERS: u32 = 1024;
 
 /// The library of a scene with one caller.
-type Shared<L> = Library<L, u8, TableDevice, Journal>;
+type Shared<L> = Library<L, u64, TableDevice, Journal>;
 
 /// What a scene leaves.
 #[derive(Drop)]
@@ -28,7 +28,7 @@ pub struct Left {
     /// The steps in a row that each call for such made.
     pub rows: Vec<Row>,
     /// What was kept with the results that went out.
-    pub kept: Vec<u8>,
+    pub kept: Vec<u64>,
     /// The places of the journal.
     pub places: Vec<Place>,
     /// Whether nothing was left to be done.
@@ -40,14 +40,14 @@ fn ended<L: Naming>(
     alloc: Global,
     library: Shared<L>,
     callers: Vec<Caller<L>>,
-) -> Option<Ended<L, u8, TableDevice, Journal>>
+) -> Option<Ended<L, u64, TableDevice, Journal>>
     requires { L.parts ≡ 1025 }
 {
     library.finish(callers, Vec::new(alloc)).ok()
 }
 
 /// Whether nothing was left to be done. None where another number of callers was made than there can be.
-fn rest<L: Naming>(ended: &Ended<L, u8, TableDevice, Journal>) -> Option<bool> {
+fn rest<L: Naming>(ended: &Ended<L, u64, TableDevice, Journal>) -> Option<bool> {
     if ended.made == CALLERS {
         Some(ended.is_at_rest())
     } else {
@@ -56,7 +56,7 @@ fn rest<L: Naming>(ended: &Ended<L, u8, TableDevice, Journal>) -> Option<bool> {
 }
 
 /// What was kept of the journal. The core goes.
-fn journal_of<L: Naming>(ended: Ended<L, u8, TableDevice, Journal>) -> Journal {
+fn journal_of<L: Naming>(ended: Ended<L, u64, TableDevice, Journal>) -> Journal {
     let Ended { recorder, .. } = ended;
     recorder
 }
@@ -142,7 +142,7 @@ fn live<L: Naming, R: Wait>(
     requires table { opening.table ≡ L.table }
     requires setup { opening.setup ≡ L.setup }
 {
-    let library = Library::<L, u8, TableDevice, Journal>::new(alloc, opening)?;
+    let library = Library::<L, u64, TableDevice, Journal>::new(alloc, opening)?;
     let (callers, single) = made_by_last(rt, alloc, &library, calls)?;
     let (places, at_rest) = places(alloc, library, callers)?;
     let Single { rows, kept, .. } = single;

@@ -13,7 +13,7 @@ use usb_journal::{Journal, Naming, Row};
 use usb_model::{Bytes, EpAddr, Refused, Request};
 
 /// What is kept with the first transfer; with each that is accepted behind it, one more.
-const PAYLOAD: u8 = 77;
+const PAYLOAD: u64 = 77;
 
 /// For how many rows and payloads there is room from the beginning.
 const ROOM: usize = 64;
@@ -22,18 +22,18 @@ const ROOM: usize = 64;
 const TRIES: u32 = 3;
 
 /// The board of a scene with one caller.
-pub type One<'a, R, L> = Board<'a, R, L, u8, TableDevice, Journal>;
+pub type One<'a, R, L> = Board<'a, R, L, u64, TableDevice, Journal>;
 
 /// What the calls of a scene left with their caller.
 #[derive(Drop)]
 pub struct Single {
     alloc: Global,
     reader: Reader,
-    payload: u8,
+    payload: u64,
     /// The steps in a row that each call for such made.
     pub rows: Vec<Row>,
     /// What was kept with the results that went out.
-    pub kept: Vec<u8>,
+    pub kept: Vec<u64>,
 }
 
 /// Bytes to be sent.
@@ -61,7 +61,7 @@ impl Single {
     }
 
     /// A result went out, if there was one.
-    fn keep(&mut self, taken: Option<Taken<u8>>) -> result::Result<(), Refused> {
+    fn keep(&mut self, taken: Option<Taken<u64>>) -> result::Result<(), Refused> {
         if let Some(taken) = taken {
             self.kept.push(taken.payload).map_err(|_| Refused::NoMem)?;
         }

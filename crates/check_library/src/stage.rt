@@ -102,7 +102,12 @@ where
     J::Draft: Send,
 {
     let life = live_gated::<SceneCallback<'a>, D, J, Turnstile<'a>, Player<'a>, R>(
-        rt, alloc, setup, gates, players,
+        rt,
+        alloc,
+        setup,
+        gates,
+        u64::MAX,
+        players,
     )?;
     Ok(remains_of(life))
 }

@@ -3,7 +3,7 @@
 use std::alloc::AllocError;
 use std::sync::Arc;
 use std::sync::atomic::{AtomicBool, AtomicU64, Ordering};
-use tirnouch::{Callback, Due, Status, Verdict};
+use tirnouch::{Anyone, Callback, Due, Payload, Status, Verdict};
 
 /// What came of a handle's transfers so far. Callbacks write it, the handle's threads and the program read it.
 #[derive(Drop)]
@@ -64,6 +64,11 @@ impl Report {
             tally: tally.clone()?,
         })
     }
+}
+
+/// It may be kept with each name's transfers.
+impl Payload for Report {
+    type Whom = Anyone;
 }
 
 impl Callback for Report {

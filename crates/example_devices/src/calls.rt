@@ -5,7 +5,7 @@ use std::alloc::AllocError;
 use std::sync::Wait;
 use usb_device::Device;
 use usb_journal::{Naming, Recorder};
-use usb_library::{Answered, Caller, Library};
+use usb_library::{Answered, Caller, Library, Payload};
 use usb_model::{Name, Refused, Request};
 
 /// No memory is a refusal as others are.
@@ -20,7 +20,7 @@ fn granted<L: Naming>(answered: Result<Answered<L>, AllocError>) -> Result<(), R
 }
 
 /// Opens the reader's device.
-fn open<L: Naming, P: Drop, D: Device, J: Recorder, R: Wait>(
+fn open<L: Naming, P: Payload, D: Device, J: Recorder, R: Wait>(
     rt: &R,
     library: &Library<L, P, D, J>,
     caller: &mut Caller<L>,
@@ -30,7 +30,7 @@ fn open<L: Naming, P: Drop, D: Device, J: Recorder, R: Wait>(
 }
 
 /// Claims the reader's interface.
-fn claim<L: Naming, P: Drop, D: Device, J: Recorder, R: Wait>(
+fn claim<L: Naming, P: Payload, D: Device, J: Recorder, R: Wait>(
     rt: &R,
     library: &Library<L, P, D, J>,
     caller: &mut Caller<L>,
@@ -40,7 +40,7 @@ fn claim<L: Naming, P: Drop, D: Device, J: Recorder, R: Wait>(
 }
 
 /// Opens the reader's device, and claims its interface.
-pub fn open_and_claim<L: Naming, P: Drop, D: Device, J: Recorder, R: Wait>(
+pub fn open_and_claim<L: Naming, P: Payload, D: Device, J: Recorder, R: Wait>(
     rt: &R,
     library: &Library<L, P, D, J>,
     caller: &mut Caller<L>,
@@ -51,14 +51,16 @@ pub fn open_and_claim<L: Naming, P: Drop, D: Device, J: Recorder, R: Wait>(
 }
 
 /// Submits a transfer of a handle: its number.
-pub fn submit<L: Naming, P: Drop, D: Device, J: Recorder, R: Wait>(
+pub fn submit<L: Naming, P: Payload, D: Device, J: Recorder, R: Wait>(
     rt: &R,
     library: &Library<L, P, D, J>,
     caller: &mut Caller<L>,
     h: Name,
     request: Request,
     callback: P,
-) -> Result<u64, Refused> {
+) -> Result<u64, Refused>
+    requires suits { P.Whom.suits callback h }
+{
     match library.submit(rt, caller, h, request, callback) {
         Ok(submitted) => submitted.number.map_err(|refused| refused.why),
         Err(_) => Err(Refused::NoMem),

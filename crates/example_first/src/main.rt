@@ -1,4 +1,4 @@
-//! The driver of README.md, and what it needs around it: devices, a callback, and `live`, which runs it beside both workers.
+//! The driver of docs/RATTLE.md, and what it needs around it: devices, a callback, and `live`, which runs it beside both workers.
 //! Copy it to begin.
 //!
 //! # Files
@@ -19,7 +19,11 @@ use std::thread::Threads;
 use tirnouch::{DeviceNo, Name, Once, Returned, StoredCallback, TableDevice, Unrecorded, live};
 
 /// Runs a driver over one device, both workers beside it, until its callback has returned.
-fn run<R: Threads + Wait + Sync>(rt: &R, alloc: Global, meter: Meter) -> Result<()> {
+fn run<R: Threads + Wait + Sync>(
+    rt: &R,
+    alloc: Global,
+    meter: Meter<StoredCallback>,
+) -> Result<()> {
     let setup = devices(alloc, 1, 8, &[8])?;
     let drivers = Vec::from_array(alloc, [meter])?;
     let lived = live::<_, TableDevice, Unrecorded, _, _>(rt, alloc, setup, drivers)?;

@@ -3,7 +3,7 @@
 use std::alloc::AllocError;
 use std::sync::Arc;
 use std::sync::atomic::{AtomicU64, Ordering};
-use tirnouch::{Callback, Due, Status, Verdict};
+use tirnouch::{Anyone, Callback, Due, Payload, Status, Verdict};
 
 /// How many readings came to what. The callback's thread writes it, the meter's own reads it.
 #[derive(Drop)]
@@ -67,6 +67,11 @@ impl Reading {
             readings: readings.clone()?,
         })
     }
+}
+
+/// It may be kept with each name's transfers.
+impl Payload for Reading {
+    type Whom = Anyone;
 }
 
 impl Callback for Reading {

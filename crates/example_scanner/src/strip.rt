@@ -3,7 +3,7 @@
 use std::alloc::AllocError;
 use std::sync::Arc;
 use std::sync::atomic::{AtomicBool, AtomicU64, Ordering};
-use tirnouch::{Callback, Due, Verdict};
+use tirnouch::{Anyone, Callback, Due, Payload, Verdict};
 
 /// What was scanned so far. The callback's thread writes it, the scanner's own reads it.
 #[derive(Drop)]
@@ -94,6 +94,11 @@ impl Strip {
             tally: tally.clone()?,
         })
     }
+}
+
+/// It may be kept with each name's transfers.
+impl Payload for Strip {
+    type Whom = Anyone;
 }
 
 impl Callback for Strip {

@@ -13,12 +13,12 @@
 //! use bitflags::Flags as _;
 //! use std::sync::Wait;
 //!
-//! pub fn read_once<L: Naming, C: Callback, D: Device, J: Recorder, R: Wait>(
+//! pub fn read_once<L: Naming, D: Device, J: Recorder, R: Wait>(
 //!     rt: &R,
-//!     library: &Library<L, C, D, J>,
+//!     library: &Library<L, StoredCallback, D, J>,
 //!     caller: &mut Caller<L>,
 //!     meter: Name,
-//!     callback: C,
+//!     callback: StoredCallback,
 //! ) -> Result<()> {
 //!     let Some(dev) = DeviceNo::new(0) else {
 //!         return Err(anyhow!("no device 0"));
@@ -57,7 +57,9 @@
 //! - **The library**: `Opening`, then `Library::new` in a function that is generic in a `Naming`; a `Caller` for each thread;
 //!   `Journal` keeps every step, `Unrecorded` none.
 //! - **Callbacks**: `StoredCallback::once` and `StoredCallback::repeat`; a `Verdict` ends the transfer or submits it once more. A
-//!   `Callback` of one's own is told a `Due`, which reads as a `Returned` and is moved into the call.
+//!   `Callback` of one's own is told a `Due`, which reads as a `Returned` and is moved into the call. It is a `Payload` too: `impl Payload
+//!   for MyCallback { type Whom = Anyone; }`. A `Suiting` of one's own in the place of `Anyone` says for whose transfers a callback may be
+//!   kept; it is then told no other's results.
 //! - **The workers**: `controller_loop` and `event_loop`, with `Open` as their gate, go by rows of at most `BURST` steps; `Moments`
 //!   reads a clock for `Library::tick`. Who works without them calls `serve_all`, `deliver_all` and `take_all`, each of which tells
 //!   its places as a `Row`, the last with whether memory was refused to one behind them (`Outgoing`). What tells what there is to do
@@ -74,7 +76,8 @@ pub use usb_journal::{
     Journal, Naming, Outgoing, Past, Place, Receipt, RecordError, Recorder, Row, Unrecorded,
 };
 pub use usb_library::{
-    Answered, CALLERS, Caller, Ended, Library, MissingCallers, Opening, Submitted,
+    Answered, Anyone, CALLERS, Caller, Ended, Library, MissingCallers, Opening, Payload, Submitted,
+    Suiting,
 };
 pub use usb_model::{
     Body, Bytes, DeviceNo, Entry, EpAddr, Flags, Kind, Name, Refused, Reply, Request, Response,

@@ -4,5 +4,6 @@ mod NewWork
 mod Served
 mod Works
 mod Rests
+mod Suits
 mod RowMade
 mod RowWakes

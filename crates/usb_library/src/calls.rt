@@ -5,13 +5,14 @@
 
 ghost use Rattle.std.specs.Prelude.{◌≡◌, IfOk, OnErr};
 ghost use Rattle.usb_model.specs.declared.step.Step.TheVariants.{Cancel, Claim, ClearHalt, Close, Command, Deliver, Open, Release, Reset, Serve, Unplug};
-ghost use Rattle.usb_core.specs.Public.{does_something};
+ghost use Rattle.usb_core.specs.Public.{StillCarries, does_something};
 ghost use Rattle.usb_journal.specs.Booked.{world_where};
 ghost use Rattle.usb_library.specs.Calls.{Makes, misses};
 
 use crate::answered::Answered;
 use crate::caller::Caller;
 use crate::library::Library;
+use crate::payload::Payload;
 use crate::wakes::{of_event, of_packet};
 use std::alloc::AllocError;
 use std::sync::Wait;
@@ -28,13 +29,14 @@ fn delivered<L: Naming, P: Drop, D: Device, J: Recorder>(
     ensures entry { IfOk result (λ x. x.0.entry ≡ x.0.receipt.entry.entry) }
     ensures order { IfOk result (λ x. x.1 ≡ does_something L.setup (world_where L.setup caller.new.seen) Command) }
     ensures refused { OnErr result (caller.new ≡ misses caller.old) }
+    ensures carries { StillCarries book.old.core book.new.core }
 {
     let made = book.deliver(&mut caller.position);
     let (receipt, entry) = caller.counted(made)?;
     Ok((Answered { receipt, entry }, book.has_order()))
 }
 
-impl<L: Naming, P: Drop, D: Device, J: Recorder> Library<L, P, D, J> {
+impl<L: Naming, P: Payload, D: Device, J: Recorder> Library<L, P, D, J> {
     /// Opens a device (libusb 1.0, `libusb_open`). NotFound where there is no such device, NoDevice where it is gone, Busy where
     /// the name has one open.
     pub fn open<R: Wait>(

@@ -14,6 +14,7 @@ ghost use Rattle.usb_library.specs.Calls.{IsAtRest, Knows, position_of};
 use crate::caller::Caller;
 use crate::library::{Guarded, Library};
 use crate::met::Met;
+use crate::payload::Payload;
 use crate::wakes::{Watchers, is_nothing};
 use std::alloc::{AllocError, Global};
 use std::sync::Mutex;
@@ -45,8 +46,8 @@ pub struct Ended<L: Naming, P, D: Device, J> {
 
 /// Callers are missing. The library, and all that was brought, is handed back (`into_library`).
 #[derive(Drop)]
-pub struct MissingCallers<L: Naming, P, D: Device, J: Recorder> {
-    guarded: Guarded<L, P, D, J>,
+pub struct MissingCallers<L: Naming, P: Payload, D: Device, J: Recorder> {
+    guarded: Guarded<L, P, D, J, P::Whom>,
     watchers: Watchers,
     met: Met,
     /// How many callers were made.
@@ -57,7 +58,7 @@ pub struct MissingCallers<L: Naming, P, D: Device, J: Recorder> {
     pub receipts: Vec<Receipt<L>>,
 }
 
-impl<L: Naming, P: Drop, D: Device, J: Recorder> Library<L, P, D, J> {
+impl<L: Naming, P: Payload, D: Device, J: Recorder> Library<L, P, D, J> {
     /// Ends the library, once all its callers are back: the journal is the definitions' run of its steps, and at each receipt's
     /// place it has what the receipt says; no two receipts have one place; it has as many places as the callers made steps, and each
     /// caller's are those of its number, which no other has; it began with what each caller had seen. The core shows the world where it
@@ -154,7 +155,7 @@ impl<L: Naming, P, D: Device> Ended<L, P, D, Journal> {
     }
 }
 
-impl<L: Naming, P: Drop, D: Device, J: Recorder> MissingCallers<L, P, D, J> {
+impl<L: Naming, P: Payload, D: Device, J: Recorder> MissingCallers<L, P, D, J> {
     /// The library, which goes on, with the callers and the receipts that were brought.
     pub fn into_library(self) -> (Library<L, P, D, J>, Vec<Caller<L>>, Vec<Receipt<L>>)
         ensures { (result.1 ≡ self.callers) × (result.2 ≡ self.receipts) }

@@ -6,6 +6,7 @@
 //! # Files
 //!
 //! - `opening.rt`: what a library is made of, before a type names it
+//! - `payload.rt`, specs/Suits: what is kept with a transfer, and whom it suits
 //! - `library.rt`, `calls.rt`, `transfers.rt`: the library; its calls, those of handles and of the controller, those
 //!   of transfers and of time
 //! - `rows.rt`: calls that make steps in a row, under one hold of the lock
@@ -42,6 +43,10 @@
 //!   anything; `deliver_all` stops where no event waits; `take_all` gives the results with what was kept, and stops where
 //!   none waits, or where one waits and memory was refused to it, which it tells (`Outgoing`). They have no receipts: the
 //!   caller's own places and what it has seen say the same. An error is want of memory before the first of them
+//! - `submit`, `again`, `again_with` take a `Payload` that suits the name (`suits` of its `Payload::Whom`), and `take`, `take_all` give
+//!   with each result one that suits its name. The lock keeps it so (`AllSuit`): with each transfer in flight goes what was kept under its
+//!   name and number, and whatever was kept suits its name. That it is the very one which was submitted under this number is a clause
+//!   below the lock
 //! - `tick`: `Ticks`: one Expire for each transfer that is due at the moment, which is `now` or later, in the
 //!   definitions' order, at consecutive places behind the journal so far, which began with all that the caller had seen,
 //!   and no other step
@@ -87,6 +92,7 @@ mod library;
 mod look;
 mod met;
 mod opening;
+mod payload;
 mod rows;
 mod transfers;
 mod wakes;
@@ -97,4 +103,5 @@ pub use callers::CALLERS;
 pub use finish::{Ended, MissingCallers};
 pub use library::Library;
 pub use opening::Opening;
+pub use payload::{Anyone, Payload, Suiting};
 pub use wakes::WorkerPart;

@@ -12,9 +12,11 @@ use crate::callers::Callers;
 use crate::look::Look;
 use crate::met::Met;
 use crate::opening::Opening;
+use crate::payload::{Payload, Suiting};
 use crate::wakes::{Watchers, Work};
 use crossbeam_utils::Backoff;
 use std::alloc::{AllocError, Global};
+use std::marker::{Model, PhantomData};
 use std::sync::{Mutex, MutexGuard, Wait};
 use usb_device::Device;
 use usb_journal::{JournaledCore, Naming, Receipt, Recorder};
@@ -26,13 +28,26 @@ const LOOKS: u32 = 32;
 
 /// What the lock guards.
 #[derive(Drop)]
-pub struct Guarded<L: Naming, P, D: Device, J: Recorder> {
+pub struct Guarded<L: Naming, P, D: Device, J: Recorder, S: Suiting<P>> {
     /// The core with its journal.
     pub(crate) book: JournaledCore<L, P, D, J>,
     /// How many callers were made.
     pub(crate) callers: Callers<L>,
     /// Where the next packet is looked for.
     pub(crate) look: Look,
+    /// Whom payloads suit. It is a type beside theirs: those may be closures, of which the view of a type can't ask for a trait.
+    pub(crate) whom: PhantomData<S>,
+}
+
+/// Contracts see the book, and how many callers were made. What is kept with each transfer in flight suits its name.
+impl<L: Naming, P, D: Device, J: Recorder, S: Suiting<P>> Model for Guarded<L, P, D, J, S> {
+    ghost use Rattle.usb_library.specs.Suits.{AllSuit, Guarding};
+
+    ghost Value = { Guarding P };
+
+    ghost view = { λ g. record { book = g.book; callers = g.callers } };
+
+    ghost invariant = { λ g. AllSuit S.suits g.book.core };
 }
 
 /// A core under a lock, with what callers keep with their transfers (`P`), devices (`D`), and a recorder that keeps the
@@ -46,13 +61,13 @@ pub struct Guarded<L: Naming, P, D: Device, J: Recorder> {
 /// taken, to unpark them; the two are never held together. What must not change: the step and its place of the journal are
 /// made under one hold of the lock, else the journal's order isn't that of the core.
 #[derive(Drop)]
-pub struct Library<L: Naming, P, D: Device, J: Recorder> {
-    pub(crate) guarded: Mutex<Guarded<L, P, D, J>>,
+pub struct Library<L: Naming, P: Payload, D: Device, J: Recorder> {
+    pub(crate) guarded: Mutex<Guarded<L, P, D, J, P::Whom>>,
     pub(crate) watchers: Watchers,
     pub(crate) met: Met,
 }
 
-impl<L: Naming, P: Drop, D: Device, J: Recorder> Library<L, P, D, J> {
+impl<L: Naming, P: Payload, D: Device, J: Recorder> Library<L, P, D, J> {
     /// A library with these devices, and no caller. An error where memory is refused.
     pub fn new(alloc: Global, opening: Opening<D>) -> Result<Library<L, P, D, J>, AllocError>
         requires name { opening.name ≡ L.name }
@@ -73,6 +88,7 @@ impl<L: Naming, P: Drop, D: Device, J: Recorder> Library<L, P, D, J> {
                 book,
                 callers: Callers::new(spare),
                 look: Look::new(),
+                whom: PhantomData,
             }),
             watchers: Watchers::new(alloc),
             met: Met::new(),
@@ -100,7 +116,7 @@ impl<L: Naming, P: Drop, D: Device, J: Recorder> Library<L, P, D, J> {
 
     /// Takes the lock. Inlined, so that a lock that is free is taken without a call.
     #[inline(always)]
-    pub(crate) fn lock<R: Wait>(&self, rt: &R) -> MutexGuard<'_, Guarded<L, P, D, J>> {
+    pub(crate) fn lock<R: Wait>(&self, rt: &R) -> MutexGuard<'_, Guarded<L, P, D, J, P::Whom>> {
         if let Some(guard) = self.guarded.try_lock() {
             return guard;
         }
@@ -109,7 +125,7 @@ impl<L: Naming, P: Drop, D: Device, J: Recorder> Library<L, P, D, J> {
 
     /// The same where it was found taken: it is looked for a while before the thread sleeps.
     #[inline(never)]
-    fn lock_later<R: Wait>(&self, rt: &R) -> MutexGuard<'_, Guarded<L, P, D, J>> {
+    fn lock_later<R: Wait>(&self, rt: &R) -> MutexGuard<'_, Guarded<L, P, D, J, P::Whom>> {
         let backoff = Backoff::new();
         for _ in 0..LOOKS {
             backoff.snooze();

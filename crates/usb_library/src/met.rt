@@ -1,6 +1,7 @@
 //! What the workers met that a caller should know: want of memory, and callbacks that ended early.
 
 use crate::library::Library;
+use crate::payload::Payload;
 use std::sync::atomic::{AtomicBool, AtomicU64, Ordering};
 use usb_device::Device;
 use usb_journal::{Naming, Recorder};
@@ -32,7 +33,7 @@ impl Met {
     }
 }
 
-impl<L: Naming, P: Drop, D: Device, J: Recorder> Library<L, P, D, J> {
+impl<L: Naming, P: Payload, D: Device, J: Recorder> Library<L, P, D, J> {
     /// Whether a worker was refused memory since the library was made. Its step was made later, or the worker gave up.
     pub fn has_lacked_memory(&self) -> bool {
         self.met.has_lacked_memory()

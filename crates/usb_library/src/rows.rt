@@ -4,7 +4,7 @@
 //! many steps it makes at most is its caller's to say: so long others wait for the lock. An error is want of memory: then
 //! nothing changed, and nothing is left of the call.
 
-ghost use Rattle.std.specs.Prelude.{◌≡◌, ◌<◌, ◌≤◌, [], false, true, IfOk, OnErr, OnOk, Some, map, max, replicate};
+ghost use Rattle.std.specs.Prelude.{◌≡◌, ◌<◌, ◌≤◌, [], false, true, IfOk, OnErr, OnOk, Some, All, map, max, replicate};
 ghost use Rattle.usb_model.specs.declared.step.Step.TheVariants.{Deliver, Serve, Take};
 ghost use Rattle.usb_core.specs.Public.{called_entry, does_something};
 ghost use Rattle.usb_journal.specs.Booked.{world_where};
@@ -15,6 +15,7 @@ ghost use Rattle.usb_library.specs.Wakes.{WakesSince};
 
 use crate::caller::Caller;
 use crate::library::Library;
+use crate::payload::Payload;
 use crate::wakes::{Work, WorkerPart};
 use std::alloc::AllocError;
 use std::sync::Wait;
@@ -23,7 +24,7 @@ use usb_device::Device;
 use usb_journal::{Naming, Outgoing, Past, Recorder, Row};
 use usb_model::{DeviceNo, EpAddr};
 
-impl<L: Naming, P: Drop, D: Device, J: Recorder> Library<L, P, D, J> {
+impl<L: Naming, P: Payload, D: Device, J: Recorder> Library<L, P, D, J> {
     /// A device answers packets in a row at an endpoint (USB 2.0, 8.5): at most so many, and at least one. They end behind the first
     /// that moved no bytes; one that ended a transfer is the last only where no other packet does anything there.
     pub fn serve_all<R: Wait>(
@@ -100,6 +101,7 @@ impl<L: Naming, P: Drop, D: Device, J: Recorder> Library<L, P, D, J> {
         requires empty { taken.old.items ≡ [] }
         ensures made { IfOk result (λ x. MakesRow L.setup (replicate x.row.count Take) caller.old x.row caller.new) }
         ensures entries { IfOk result (λ x. row_entries x.row caller.new ≡ map (λ t. called_entry (Some t.returned)) taken.new.items) }
+        ensures suits { All (λ t. P.Whom.suits t.payload t.returned.h) taken.new.items }
         ensures few { IfOk result (λ x. x.row.count ≤ most) }
         ensures ends { IfOk result (λ x. x.lacked ≡ false → x.row.count < most → does_something L.setup (world_where L.setup caller.new.seen) Take ≡ false) }
         ensures lacks { IfOk result (λ x. x.lacked ≡ true → (0 < x.row.count) × (x.row.count < most) × (does_something L.setup (world_where L.setup caller.new.seen) Take ≡ true)) }

@@ -1,6 +1,6 @@
 //! The calls that submit transfers, and those that end them.
 
-ghost use Rattle.std.specs.Prelude.{◌≡◌, IfErr, IfOk, OnErr, OnOk, option_map};
+ghost use Rattle.std.specs.Prelude.{◌≡◌, IfErr, IfOk, IfSome, OnErr, OnOk, option_map};
 ghost use Rattle.usb_model.specs.declared.step.Step.TheVariants.{Answer, Submit, Take};
 ghost use Rattle.usb_model.specs.declared.verdict.Verdict.TheVariants.{Again, AgainWith, Stop};
 ghost use Rattle.usb_core.specs.Public.{called_entry};
@@ -10,6 +10,7 @@ ghost use Rattle.usb_library.specs.Calls.{Makes, Ticks, misses};
 use crate::answered::{Answered, Submitted};
 use crate::caller::Caller;
 use crate::library::Library;
+use crate::payload::Payload;
 use crate::wakes::{Work, WorkerPart};
 use std::alloc::AllocError;
 use std::sync::Wait;
@@ -18,8 +19,8 @@ use usb_device::Device;
 use usb_journal::{Naming, Past, Receipt, RecordError, Recorder};
 use usb_model::{Bytes, Name, Request};
 
-impl<L: Naming, P: Drop, D: Device, J: Recorder> Library<L, P, D, J> {
-    /// Submits a transfer (libusb 1.0, `libusb_submit_transfer`), whose callback is kept with it: its number. Refused
+impl<L: Naming, P: Payload, D: Device, J: Recorder> Library<L, P, D, J> {
+    /// Submits a transfer (libusb 1.0, `libusb_submit_transfer`), whose callback is kept with it and suits its name: its number. Refused
     /// where the endpoint isn't the name's (NotFound), the device is gone (NoDevice), the kind is not supported or another's,
     /// direction or length is wrong (NotSupported, InvalidParam), or the endpoint has 16 transfers (Busy). Request and callback then come back, and
     /// so they do, without a receipt, where memory is refused.
@@ -31,6 +32,7 @@ impl<L: Naming, P: Drop, D: Device, J: Recorder> Library<L, P, D, J> {
         request: Request,
         callback: P,
     ) -> Result<Submitted<L, Request, P>, RecordError<Request, P>>
+        requires suits { P.Whom.suits callback h }
         ensures made { IfOk result (λ x. Makes L.setup (Submit h request) caller.old caller.new x.receipt) }
         ensures entry { IfOk result (λ x. x.receipt.entry.entry ≡ answer_entry h x.number) }
         ensures back { IfOk result (λ x. IfErr x.number (λ y. (y.given ≡ request) × (y.payload ≡ callback))) }
@@ -52,7 +54,7 @@ impl<L: Naming, P: Drop, D: Device, J: Recorder> Library<L, P, D, J> {
         Ok(Submitted { receipt, number })
     }
 
-    /// The oldest result goes out to its callback, which is handed over with what it is to be told (libusb 1.0,
+    /// The oldest result goes out to its callback, which suits its name and is handed over with what it is to be told (libusb 1.0,
     /// `libusb_transfer_cb_fn`): whoever takes it calls it, with no lock held, and tells its verdict by `answer`. None where none
     /// waits. An error where memory is refused: then nothing changed.
     pub fn take<R: Wait>(
@@ -62,6 +64,7 @@ impl<L: Naming, P: Drop, D: Device, J: Recorder> Library<L, P, D, J> {
     ) -> Result<(Receipt<L>, Option<Taken<P>>), AllocError>
         ensures made { IfOk result (λ x. Makes L.setup Take caller.old caller.new x.0) }
         ensures entry { IfOk result (λ x. x.0.entry.entry ≡ called_entry (option_map (λ t. t.returned) x.1)) }
+        ensures suits { IfOk result (λ x. IfSome x.1 (λ t. P.Whom.suits t.payload t.returned.h)) }
         ensures refused { OnErr result (caller.new ≡ misses caller.old) }
     {
         let made = self.lock(rt).book.take(&mut caller.position);
@@ -102,6 +105,7 @@ impl<L: Naming, P: Drop, D: Device, J: Recorder> Library<L, P, D, J> {
         n: u64,
         callback: P,
     ) -> Result<Submitted<L, (), P>, RecordError<(), P>>
+        requires suits { P.Whom.suits callback h }
         ensures made { IfOk result (λ x. Makes L.setup (Answer h n Again) caller.old caller.new x.receipt) }
         ensures entry { IfOk result (λ x. x.receipt.entry.entry ≡ answer_entry h x.number) }
         ensures back { IfOk result (λ x. IfErr x.number (λ y. y.payload ≡ callback)) }
@@ -133,6 +137,7 @@ impl<L: Naming, P: Drop, D: Device, J: Recorder> Library<L, P, D, J> {
         bytes: Bytes,
         callback: P,
     ) -> Result<Submitted<L, Bytes, P>, RecordError<Bytes, P>>
+        requires suits { P.Whom.suits callback h }
         ensures made { IfOk result (λ x. Makes L.setup (Answer h n (AgainWith bytes)) caller.old caller.new x.receipt) }
         ensures entry { IfOk result (λ x. x.receipt.entry.entry ≡ answer_entry h x.number) }
         ensures back { IfOk result (λ x. IfErr x.number (λ y. (y.given ≡ bytes) × (y.payload ≡ callback))) }

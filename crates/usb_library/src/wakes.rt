@@ -7,6 +7,7 @@ ghost use Rattle.usb_library.specs.Wakes.{of_event as event_work, of_packet as p
 
 use crate::caller::Caller;
 use crate::library::Library;
+use crate::payload::Payload;
 use crossbeam_utils::sync::Unparker;
 use std::alloc::{AllocError, Global};
 use std::sync::atomic::{AtomicBool, AtomicU64, Ordering};
@@ -205,7 +206,7 @@ pub(crate) fn is_nothing(pending: &Pending) -> bool
     !(has_work(pending) || *deliver || *take || *out)
 }
 
-impl<L: Naming, P: Drop, D: Device, J: Recorder> Library<L, P, D, J> {
+impl<L: Naming, P: Payload, D: Device, J: Recorder> Library<L, P, D, J> {
     /// From now on this is unparked after each call that changed something, and when the workers are asked to stop. A
     /// thread that looks, finds nothing to do, and parks then misses no change: what comes between is a token that lets
     /// it pass. An error where memory is refused.

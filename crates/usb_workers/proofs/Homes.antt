@@ -1,6 +1,7 @@
 -- One thread more that came home.
-use Rattle.std.proofs.Common.{◌≡◌, ◌<◌, ℕ, suc, List, [], ◌∷◌, ◌++◌, length, map, get_or, Result, Ok, Err, IfOk, refl, sym, subst, ap, append_assoc, ◌∙◌, arith}
+use Rattle.std.proofs.Common.{◌≡◌, ◌<◌, ◌==◌, ℕ, suc, Bool, true, false, List, [], ◌∷◌, ◌++◌, length, map, get_or, Result, Ok, Err, IfOk, refl, sym, subst, ap, append_assoc, ◌∙◌, arith}
 use Rattle.std.specs.Prelude.{All}
+use Rattle.std.specs.List.{list_all}
 use Rattle.std.proofs.lemmas.List.{map-append}
 use Rattle.usb_model.specs.declared.reply.Returned.{Returned}
 use Rattle.usb_model.specs.declared.verdict.Verdict.{Verdict}
@@ -51,12 +52,12 @@ module _ {T X S H : Type 0} (makes : T → Setup → Calling → Calling → X �
   drives_home (s ∷ ss) [] none e = absurd e
 
 -- who made the places of a journal
-pub lived_by : {T X S H V E : Type 0} (may : Returned → Verdict → Type 0) (makes : T → Setup → Calling → Calling → X → Type 0) (setup : Setup) (journal : V → List Place) (left : V → List X)
+pub lived_by : {T X S H V E : Type 0} (may : Calling → Returned → Verdict → Type 0) (makes : T → Setup → Calling → Calling → X → Type 0) (setup : Setup) (journal : V → List Place) (left : V → List X)
     (driver : S → T) (first : S → Calling) (last : H → Calling) (leaves : H → X) (seats : List S) (homes : List H) (drivers : List T) (controller events c e : Calling) → c.own ≡ [] → e.own ≡ []
     → ControlsAll setup c controller → HandlesAll setup may e events → map driver seats ≡ drivers → All (λ s. (first s).own ≡ []) seats
-    → Each (λ s h. makes (driver s) setup (first s) (last h) (leaves h)) seats homes → (r : Result V E) → IfOk r (λ v. AreAll (journal v) (controller ∷ events ∷ map last homes)) → IfOk r (λ v. left v ≡ map leaves homes)
-    → IfOk r (λ v. LivedBy may makes setup (journal v) drivers (left v))
-lived_by may makes setup journal left driver first last leaves seats homes drivers controller events c e none none' controls handles same fresh drives (Ok v) all leave = record {
+    → Each (λ s h. makes (driver s) setup (first s) (last h) (leaves h)) seats homes → (lacked : V → Bool) (r : Result V E) → IfOk r (λ v. AreAll (journal v) (controller ∷ events ∷ map last homes)) → IfOk r (λ v. left v ≡ map leaves homes)
+    → IfOk r (λ v. lacked v ≡ false → list_all (λ c. c.missed == 0) (controller ∷ events ∷ map last homes) ≡ true) → IfOk r (λ v. LivedBy may makes setup (journal v) drivers (left v) (lacked v))
+lived_by may makes setup journal left driver first last leaves seats homes drivers controller events c e none none' controls handles same fresh drives lacked (Ok v) all leave lacks = record {
   controller = controller;
   events = events;
   homes = map (home makes setup driver first last leaves) homes;
@@ -65,5 +66,6 @@ lived_by may makes setup journal left driver first last leaves seats homes drive
   drives = subst (λ (ds : List _). Each (Drives makes setup) ds (map (home makes setup driver first last leaves) homes)) same (drives_home makes setup driver first last leaves seats homes fresh drives);
   leaves = leave ∙ sym (left_home makes setup driver first last leaves homes);
   all = subst (λ (cs : List Calling). AreAll (journal v) (controller ∷ events ∷ cs)) (sym (callers_home makes setup driver first last leaves homes)) all;
+  lacks = λ none. subst (λ (cs : List Calling). list_all (λ c. c.missed == 0) (controller ∷ events ∷ cs) ≡ true) (sym (callers_home makes setup driver first last leaves homes)) (lacks none);
 }
-lived_by may makes setup journal left driver first last leaves seats homes drivers controller events c e none none' controls handles same fresh drives (Err x) all leave = tt
+lived_by may makes setup journal left driver first last leaves seats homes drivers controller events c e none none' controls handles same fresh drives lacked (Err x) all leave lacks = tt

@@ -1,6 +1,6 @@
 -- What a library that lived leaves.
-use Rattle.std.specs.Prelude.{◌≡◌, ◌≤◌, ◌==◌, ℕ, Bool, true, List, [], ◌∷◌, All, count_by, length, map, ⊤}
-use Rattle.std.specs.List.{sum_by}
+use Rattle.std.specs.Prelude.{◌≡◌, ◌≤◌, ◌==◌, ℕ, Bool, true, false, List, [], ◌∷◌, All, count_by, length, map, ⊤}
+use Rattle.std.specs.List.{list_all, sum_by}
 use Rattle.usb_model.specs.declared.reply.Returned.{Returned}
 use Rattle.usb_model.specs.declared.verdict.Verdict.{Verdict}
 use Rattle.usb_model.specs.Setup.{Setup}
@@ -34,7 +34,7 @@ pub record ControlsAll (setup : Setup) (old new : Calling) : Type 0 where
   pub ended : HasEnded (LacksWork setup) new
 
 -- the worker that handles events, likewise
-pub record HandlesAll (setup : Setup) (may : Returned → Verdict → Type 0) (old new : Calling) : Type 0 where
+pub record HandlesAll (setup : Setup) (may : Calling → Returned → Verdict → Type 0) (old new : Calling) : Type 0 where
   pub rounds : Rounds (ShowsEvents setup) (Handles setup may) old new
   pub ended : HasEnded (LacksEvents setup) new
 
@@ -58,8 +58,8 @@ pub record AreAll (journal : List Place) (callers : List Calling) : Type 0 where
   pub numbers : (n : ℕ) → count_by (λ c. c.number == n) callers ≤ 1
   pub counted : length journal ≡ sum_by (λ c. length c.own) callers
 
--- who made the places of a journal: the controller's worker what its looks showed, until nothing of its part was left; the worker that handles events likewise; and each driver what it may make; and nobody else
-pub record LivedBy {T X : Type 0} (may : Returned → Verdict → Type 0) (makes : T → Setup → Calling → Calling → X → Type 0) (setup : Setup) (journal : List Place) (drivers : List T) (left : List X) : Type 0 where
+-- who made the places of a journal: the controller's worker what its looks showed, until nothing of its part was left; the worker that handles events likewise; and each driver what it may make; and nobody else. lacked: whether memory may have been refused to one of them
+pub record LivedBy {T X : Type 0} (may : Calling → Returned → Verdict → Type 0) (makes : T → Setup → Calling → Calling → X → Type 0) (setup : Setup) (journal : List Place) (drivers : List T) (left : List X) (lacked : Bool) : Type 0 where
   pub controller : Calling
   pub events : Calling
   pub homes : List (Returns X)
@@ -68,3 +68,4 @@ pub record LivedBy {T X : Type 0} (may : Returned → Verdict → Type 0) (makes
   pub drives : Each (Drives makes setup) drivers homes
   pub leaves : left ≡ map (λ h. h.left) homes
   pub all : AreAll journal (controller ∷ events ∷ map (λ h. h.caller) homes)
+  pub lacks : lacked ≡ false → list_all (λ c. c.missed == 0) (controller ∷ events ∷ map (λ h. h.caller) homes) ≡ true

@@ -1,7 +1,7 @@
 -- What the workers make of each look: of all that it showed steps in a row, and what callbacks answer.
-use Rattle.std.specs.Prelude.{◌≡◌, ◌≤◌, ◌<◌, ◌^◌, ◌⊎◌, ℕ, zero, suc, Bool, true, false, List, [], ◌∷◌, map, replicate, Option, Some, None}
+use Rattle.std.specs.Prelude.{◌≡◌, ◌≤◌, ◌<◌, ◌^◌, ◌⊎◌, ℕ, zero, suc, Bool, true, false, List, [], ◌∷◌, count_by, map, replicate, Option, Some, None}
 use Rattle.usb_model.specs.declared.reply.Reply.{Reply}
-use Rattle.usb_model.specs.declared.reply.Reply.TheVariants.{Number}
+use Rattle.usb_model.specs.declared.reply.Reply.TheVariants.{Called, Number}
 use Rattle.usb_model.specs.declared.reply.Returned.{Returned}
 use Rattle.usb_model.specs.declared.step.Step.{Step}
 use Rattle.usb_model.specs.declared.step.Step.TheVariants.{Answer, Command, Deliver, Serve, Take}
@@ -30,9 +30,18 @@ abbrev pub is_accepted : Reply → Bool
 is_accepted (Number n) = true
 is_accepted reply = false
 
--- a verdict that some callback may give where it is told this, and that fits its rule
-abbrev pub MayAnswer : {C : Type 0} → (C → Returned → Verdict → Type 0) → (C → Rule) → Returned → Verdict → Type 0
-MayAnswer {C} may_answer rule x v = (c : C) × may_answer c x v × Fits (rule c) x v
+-- whether a reply tells a callback something
+abbrev pub is_called : Reply → Bool
+is_called (Called r) = true
+is_called reply = false
+
+-- how many callbacks were told something, among these places
+abbrev pub called_in : List Place → ℕ
+called_in places = count_by (λ p. is_called p.entry.reply) places
+
+-- a verdict that a callback may give where it is told this, of those that suit the name, and that fits its rule; or Stop, where more than so many callbacks were told something
+abbrev pub MayAnswer : {C : Type 0} → (rounds : ℕ) → (C → ℕ → Type 0) → (C → Returned → Verdict → Type 0) → (C → Rule) → Calling → Returned → Verdict → Type 0
+MayAnswer {C} rounds suits may_answer rule old x v = ((c : C) × suits c x.h × may_answer c x v × Fits (rule c) x v) ⊎ ((v ≡ Stop) × (rounds < called_in old.own))
 
 -- how a worker's part ended: what it saw last has nothing of its part; or memory was refused to it a hundred times at least
 abbrev pub HasEnded : (List Place → Type 0) → Calling → Type 0
@@ -106,25 +115,25 @@ module _ (setup : Setup) where
     out : (row : Row) → (row.count ≡ 0 → HasNone Take new) → MakesRow setup (replicate row.count Take) old row new → row_entries row new ≡ map (λ x. called_entry (Some x)) given → Takes given old new
     missed : given ≡ [] → new ≡ misses old → Takes given old new
 
-  -- of the callbacks of these results verdicts are told that they may give, one behind another
-  abbrev pub TellsAll : (Returned → Verdict → Type 0) → List Returned → Calling → Calling → Type 0
+  -- of the callbacks of these results verdicts are told that may be given, by the caller as it is then, one behind another
+  abbrev pub TellsAll : (Calling → Returned → Verdict → Type 0) → List Returned → Calling → Calling → Type 0
   TellsAll may [] old new = new ≡ old
-  TellsAll may (x ∷ xs) old new = (between : Calling) × (v : Verdict) × may x v × Tells x.h x.n v old between × TellsAll may xs between new
+  TellsAll may (x ∷ xs) old new = (between : Calling) × (v : Verdict) × may old x v × Tells x.h x.n v old between × TellsAll may xs between new
 
   -- results are taken out in a row, and behind it the verdicts of their callbacks are told, in the same order
-  pub record CallsBackAll (may : Returned → Verdict → Type 0) (old new : Calling) : Type 0 where
+  pub record CallsBackAll (may : Calling → Returned → Verdict → Type 0) (old new : Calling) : Type 0 where
     pub results : List Returned
     pub between : Calling
     pub taken : Takes results old between
     pub told : TellsAll may results between new
 
   -- where a look showed a result
-  abbrev pub CallsBackIf : (Returned → Verdict → Type 0) → Bool → Calling → Calling → Type 0
+  abbrev pub CallsBackIf : (Calling → Returned → Verdict → Type 0) → Bool → Calling → Calling → Type 0
   CallsBackIf may true old new = CallsBackAll may old new
   CallsBackIf may false old new = new ≡ old
 
   -- a look of the worker that handles events: events in a row where it showed one, then results
-  pub record Handles (may : Returned → Verdict → Type 0) (look : Events) (old new : Calling) : Type 0 where
+  pub record Handles (may : Calling → Returned → Verdict → Type 0) (look : Events) (old new : Calling) : Type 0 where
     pub between : Calling
     pub event : DeliversIf look.deliver old between
     pub result : CallsBackIf may look.take between new

@@ -1,6 +1,6 @@
 //! What a callback answered is told to the library.
 
-ghost use Rattle.std.specs.Prelude.{◌≡◌, false, true, IfOk, OnErr, is_err, is_some};
+ghost use Rattle.std.specs.Prelude.{◌≡◌, false, true, IfOk, IfSome, OnErr, is_err, is_some};
 ghost use Rattle.usb_model.specs.declared.verdict.Verdict.TheVariants.{Again, AgainWith, Stop};
 ghost use Rattle.usb_workers.specs.Rounds.{AreCounted, Ends, Resubmits, Tells};
 
@@ -9,7 +9,7 @@ use std::sync::Wait;
 use usb_core::{Callback, End, SubmitError};
 use usb_device::Device;
 use usb_journal::{Naming, RecordError, Recorder};
-use usb_library::{Caller, Library, Submitted};
+use usb_library::{Caller, Library, Payload, Submitted};
 use usb_model::{Bytes, Name, Verdict};
 
 /// A callback that isn't called again, and how it ended.
@@ -42,7 +42,7 @@ fn left<L: Naming, G: Drop, C: Drop>(
 }
 
 /// The transfer is submitted once more; where it is refused, or there is no memory, its callback comes back.
-fn again<L: Naming, C: Callback, D: Device, J: Recorder, R: Wait>(
+fn again<L: Naming, C: Callback + Payload, D: Device, J: Recorder, R: Wait>(
     rt: &R,
     library: &Library<L, C, D, J>,
     caller: &mut Caller<L>,
@@ -50,13 +50,14 @@ fn again<L: Naming, C: Callback, D: Device, J: Recorder, R: Wait>(
     n: u64,
     callback: C,
 ) -> Option<EndedCallback<C>>
+    requires suits { C.Whom.suits callback h }
     ensures { Resubmits L.setup h n Again (is_some result) caller.old caller.new }
 {
     left(library.again(rt, caller, h, n, callback))
 }
 
 /// The same with other bytes.
-fn again_with<L: Naming, C: Callback, D: Device, J: Recorder, R: Wait>(
+fn again_with<L: Naming, C: Callback + Payload, D: Device, J: Recorder, R: Wait>(
     rt: &R,
     library: &Library<L, C, D, J>,
     caller: &mut Caller<L>,
@@ -65,13 +66,14 @@ fn again_with<L: Naming, C: Callback, D: Device, J: Recorder, R: Wait>(
     bytes: Bytes,
     callback: C,
 ) -> Option<EndedCallback<C>>
+    requires suits { C.Whom.suits callback h }
     ensures { Resubmits L.setup h n (AgainWith bytes) (is_some result) caller.old caller.new }
 {
     left(library.again_with(rt, caller, h, n, bytes, callback))
 }
 
 /// The transfer of a callback is submitted once more, if its verdict asks for that; a callback that isn't called again comes back.
-fn resubmit<L: Naming, C: Callback, D: Device, J: Recorder, R: Wait>(
+fn resubmit<L: Naming, C: Callback + Payload, D: Device, J: Recorder, R: Wait>(
     rt: &R,
     library: &Library<L, C, D, J>,
     caller: &mut Caller<L>,
@@ -80,6 +82,7 @@ fn resubmit<L: Naming, C: Callback, D: Device, J: Recorder, R: Wait>(
     verdict: Verdict,
     callback: C,
 ) -> Option<EndedCallback<C>>
+    requires suits { C.Whom.suits callback h }
     ensures { Resubmits L.setup h n verdict (is_some result) caller.old caller.new }
 {
     match verdict {
@@ -93,7 +96,7 @@ fn resubmit<L: Naming, C: Callback, D: Device, J: Recorder, R: Wait>(
 }
 
 /// The end of a callback. Where memory is refused it is told once more, until it is told, or the worker gives up.
-fn stop<L: Naming, C: Callback, D: Device, J: Recorder, R: Wait>(
+fn stop<L: Naming, C: Callback + Payload, D: Device, J: Recorder, R: Wait>(
     rt: &R,
     library: &Library<L, C, D, J>,
     caller: &mut Caller<L>,
@@ -119,7 +122,10 @@ fn stop<L: Naming, C: Callback, D: Device, J: Recorder, R: Wait>(
 }
 
 /// The library is told of a callback that ended early, and why.
-fn note<L: Naming, C: Callback, D: Device, J: Recorder>(library: &Library<L, C, D, J>, end: End) {
+fn note<L: Naming, C: Callback + Payload, D: Device, J: Recorder>(
+    library: &Library<L, C, D, J>,
+    end: End,
+) {
     match end {
         End::ByVerdict => {}
         End::Refused(_) => library.note_cut(),
@@ -132,7 +138,7 @@ fn note<L: Naming, C: Callback, D: Device, J: Recorder>(library: &Library<L, C, 
 
 /// Tells the verdict of the callback of this transfer, with the callback if it can be called again. Where the transfer isn't
 /// submitted once more, for whatever cause, its callback has ended: Stop is told, and the callback is told how it ended.
-pub(crate) fn answer<L: Naming, C: Callback, D: Device, J: Recorder, R: Wait>(
+pub(crate) fn answer<L: Naming, C: Callback + Payload, D: Device, J: Recorder, R: Wait>(
     rt: &R,
     library: &Library<L, C, D, J>,
     caller: &mut Caller<L>,
@@ -143,6 +149,7 @@ pub(crate) fn answer<L: Naming, C: Callback, D: Device, J: Recorder, R: Wait>(
     callback: Option<C>,
 )
     requires stops { is_some callback ≡ false → verdict ≡ Stop }
+    requires suits { IfSome callback (λ c. C.Whom.suits c h) }
     requires counted { AreCounted tries.old.refused caller.old }
     ensures told { Tells L.setup h n verdict caller.old caller.new }
     ensures counted { AreCounted tries.new.refused caller.new }

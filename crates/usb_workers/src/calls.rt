@@ -10,7 +10,7 @@ use std::alloc::AllocError;
 use std::sync::Wait;
 use usb_device::Device;
 use usb_journal::{Naming, Recorder};
-use usb_library::{Answered, Caller, Library};
+use usb_library::{Answered, Caller, Library, Payload};
 use usb_model::{Name, Step};
 
 /// The handle that makes a step which submits nothing, whose entry is that handle's; None of what workers and callbacks do.
@@ -27,7 +27,7 @@ pub fn handle_of(step: &Step) -> Option<Name>
 }
 
 /// Makes such a step, by the call that it is. None where it is none. An error where memory is refused, which the caller counts.
-pub fn make<L: Naming, C: Drop, D: Device, J: Recorder, R: Wait>(
+pub fn make<L: Naming, C: Payload, D: Device, J: Recorder, R: Wait>(
     rt: &R,
     library: &Library<L, C, D, J>,
     caller: &mut Caller<L>,

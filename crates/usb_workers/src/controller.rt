@@ -13,11 +13,11 @@ use std::sync::Wait;
 use usb_core::Pending;
 use usb_device::Device;
 use usb_journal::{Naming, Recorder};
-use usb_library::{Caller, Library, WorkerPart};
+use usb_library::{Caller, Library, Payload, WorkerPart};
 
 /// A device answers packets at the endpoint that the look showed, in a row, as many as the gate lets by. Where memory is refused, the
 /// next look shows them again.
-fn serve<L: Naming, P: Drop, D: Device, J: Recorder, G: Gate, R: Wait>(
+fn serve<L: Naming, P: Payload, D: Device, J: Recorder, G: Gate, R: Wait>(
     rt: &R,
     library: &Library<L, P, D, J>,
     gate: &mut G,
@@ -38,7 +38,7 @@ fn serve<L: Naming, P: Drop, D: Device, J: Recorder, G: Gate, R: Wait>(
 }
 
 /// An order is carried out, if the look showed one.
-fn command<L: Naming, P: Drop, D: Device, J: Recorder, G: Gate, R: Wait>(
+fn command<L: Naming, P: Payload, D: Device, J: Recorder, G: Gate, R: Wait>(
     rt: &R,
     library: &Library<L, P, D, J>,
     gate: &mut G,
@@ -59,7 +59,7 @@ fn command<L: Naming, P: Drop, D: Device, J: Recorder, G: Gate, R: Wait>(
 }
 
 /// What one look showed; it waits where that was nothing of its part.
-fn turn<L: Naming, P: Drop, D: Device, J: Recorder, G: Gate, R: Wait>(
+fn turn<L: Naming, P: Payload, D: Device, J: Recorder, G: Gate, R: Wait>(
     rt: &R,
     library: &Library<L, P, D, J>,
     gate: &mut G,
@@ -84,7 +84,7 @@ fn turn<L: Naming, P: Drop, D: Device, J: Recorder, G: Gate, R: Wait>(
 /// end too. The caller comes back, and only where what it saw last has neither a packet nor an order, or memory was refused to it a hundred
 /// times. Look by look it made what was there to be seen: packets in a row, then the order. What memory was refused to
 /// the caller has counted, and nothing else was made.
-pub fn controller_loop<L: Naming, P: Drop, D: Device, J: Recorder, G: Gate, R: Wait>(
+pub fn controller_loop<L: Naming, P: Payload, D: Device, J: Recorder, G: Gate, R: Wait>(
     rt: &R,
     alloc: Global,
     library: &Library<L, P, D, J>,

@@ -6,11 +6,11 @@ ghost use Rattle.usb_library.specs.Calls.{Calling};
 use std::sync::Wait;
 use usb_device::Device;
 use usb_journal::{Naming, Recorder};
-use usb_library::{Caller, Library};
+use usb_library::{Caller, Library, Payload};
 
 /// A driver: what one thread does with the library, by calls of its own. The library's workers run beside it. It is not to wait
 /// for ever: what it left in progress goes on after it, as far as its device lets it.
-pub trait Driver<C> {
+pub trait Driver<C: Payload> {
     ghost use Rattle.std.specs.Prelude.{⊤};
     ghost use Rattle.usb_model.specs.Setup.{Setup};
     ghost use Rattle.usb_library.specs.Calls.{Calling};

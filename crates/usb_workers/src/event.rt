@@ -1,13 +1,13 @@
 //! The worker that handles events and calls callbacks.
 
-ghost use Rattle.std.specs.Prelude.{◌≡◌, ◌<◌, [], map};
+ghost use Rattle.std.specs.Prelude.{◌≡◌, ◌<◌, ◌≤◌, ◌+◌, [], All, length, map};
 ghost use Rattle.usb_model.specs.declared.verdict.Verdict.{Verdict};
-ghost use Rattle.usb_core.specs.Callbacks.{Fits};
 ghost use Rattle.usb_library.specs.Calls.{LacksEvents, ShowsEvents};
-ghost use Rattle.usb_workers.specs.Rounds.{AreCounted, CallsBackIf, DeliversIf, Handles, HasEnded, MayAnswer, Rounds, Takes, Tells, TellsAll};
+ghost use Rattle.usb_workers.specs.Rounds.{AreCounted, CallsBackIf, DeliversIf, Handles, HasEnded, MayAnswer, Rounds, Takes, Tells, TellsAll, called_in};
 
 use crate::answers::answer;
 use crate::gate::{Gate, WorkerStep};
+use crate::limit::Limit;
 use crate::park::Parking;
 use crate::tries::Tries;
 use std::alloc::Global;
@@ -15,11 +15,11 @@ use std::sync::Wait;
 use usb_core::{Callback, Taken};
 use usb_device::Device;
 use usb_journal::{Events, Naming, Past, Recorder};
-use usb_library::{Caller, Library, WorkerPart};
+use usb_library::{Caller, Library, Payload, WorkerPart};
 
 /// Events are handled in a row, if the look showed one, as many as wait and as the gate lets by. Where memory is refused, the next look
 /// shows them again.
-fn deliver<L: Naming, C: Callback, D: Device, J: Recorder, G: Gate, R: Wait>(
+fn deliver<L: Naming, C: Callback + Payload, D: Device, J: Recorder, G: Gate, R: Wait>(
     rt: &R,
     library: &Library<L, C, D, J>,
     gate: &mut G,
@@ -29,6 +29,7 @@ fn deliver<L: Naming, C: Callback, D: Device, J: Recorder, G: Gate, R: Wait>(
     events: &Events,
 )
     ensures made { DeliversIf L.setup events.now.deliver caller.old caller.new }
+    ensures called { called_in caller.old.own ≤ called_in caller.new.own }
     ensures counted { AreCounted tries.old.refused caller.old → AreCounted tries.new.refused caller.new }
 {
     if events.deliver {
@@ -41,7 +42,7 @@ fn deliver<L: Naming, C: Callback, D: Device, J: Recorder, G: Gate, R: Wait>(
 }
 
 /// The oldest results go out, as many as wait and at most so many.
-fn take<L: Naming, C: Callback, D: Device, J: Recorder, R: Wait>(
+fn take<L: Naming, C: Callback + Payload, D: Device, J: Recorder, R: Wait>(
     rt: &R,
     library: &Library<L, C, D, J>,
     caller: &mut Caller<L>,
@@ -53,6 +54,8 @@ fn take<L: Naming, C: Callback, D: Device, J: Recorder, R: Wait>(
     requires some { 0 < most }
     requires empty { taken.old.items ≡ [] }
     ensures made { Takes L.setup (map (λ t. t.returned) taken.new.items) caller.old caller.new }
+    ensures suits { All (λ t. C.Whom.suits t.payload t.returned.h) taken.new.items }
+    ensures called { called_in caller.old.own + length taken.new.items ≤ called_in caller.new.own }
     ensures counted { AreCounted tries.old.refused caller.old → AreCounted tries.new.refused caller.new }
 {
     match library.take_all(rt, caller, past, most, taken) {
@@ -61,17 +64,22 @@ fn take<L: Naming, C: Callback, D: Device, J: Recorder, R: Wait>(
     }
 }
 
-/// Calls a callback, with no lock held, and tells its verdict.
-fn call_back<L: Naming, C: Callback, D: Device, J: Recorder, G: Gate, R: Wait>(
+/// Calls a callback, with no lock held, and tells its verdict; or Stop, where more were called before it than may answer as they like.
+fn call_back<L: Naming, C: Callback + Payload, D: Device, J: Recorder, G: Gate, R: Wait>(
     rt: &R,
     library: &Library<L, C, D, J>,
     gate: &mut G,
     caller: &mut Caller<L>,
     tries: &mut Tries,
+    limit: &mut Limit,
     taken: Taken<C>,
 )
     requires counted { AreCounted tries.old.refused caller.old }
-    ensures told { (v : Verdict) × C.may_answer taken.payload taken.returned v × Fits (C.rule taken.payload) taken.returned v × Tells L.setup taken.returned.h taken.returned.n v caller.old caller.new }
+    requires suits { C.Whom.suits taken.payload taken.returned.h }
+    requires called { limit.old.called < called_in caller.old.own }
+    ensures told { (v : Verdict) × MayAnswer limit.old.rounds C.Whom.suits C.may_answer C.rule caller.old taken.returned v × Tells L.setup taken.returned.h taken.returned.n v caller.old caller.new }
+    ensures called { (limit.new.called ≤ limit.old.called + 1) × (called_in caller.old.own ≤ called_in caller.new.own) }
+    ensures rounds { limit.new.rounds ≡ limit.old.rounds }
     ensures counted { AreCounted tries.new.refused caller.new }
 {
     let Taken {
@@ -80,44 +88,54 @@ fn call_back<L: Naming, C: Callback, D: Device, J: Recorder, G: Gate, R: Wait>(
     } = taken;
     let (h, n) = (returned.h, returned.n);
     gate.pass(rt, WorkerStep::Call);
-    let (verdict, callback) = callback.call(returned);
+    let (answered, callback) = callback.call(returned);
+    let verdict = limit.verdict(answered);
     gate.pass(rt, WorkerStep::Answer);
     answer(rt, library, caller, tries, h, n, verdict, callback);
 }
 
 /// Calls these callbacks one by one, each with no lock held, and tells the verdict of each before the next is called.
-fn call_all<L: Naming, C: Callback, D: Device, J: Recorder, G: Gate, R: Wait>(
+fn call_all<L: Naming, C: Callback + Payload, D: Device, J: Recorder, G: Gate, R: Wait>(
     rt: &R,
     library: &Library<L, C, D, J>,
     gate: &mut G,
     caller: &mut Caller<L>,
     tries: &mut Tries,
+    limit: &mut Limit,
     taken: &mut Vec<Taken<C>>,
 )
     requires counted { AreCounted tries.old.refused caller.old }
-    ensures told { TellsAll L.setup (MayAnswer C.may_answer C.rule) (map (λ t. t.returned) taken.old.items) caller.old caller.new }
+    requires suits { All (λ t. C.Whom.suits t.payload t.returned.h) taken.old.items }
+    requires called { limit.old.called + length taken.old.items ≤ called_in caller.old.own }
+    ensures told { TellsAll L.setup (MayAnswer limit.old.rounds C.Whom.suits C.may_answer C.rule) (map (λ t. t.returned) taken.old.items) caller.old caller.new }
+    ensures called { limit.new.called ≤ called_in caller.new.own }
+    ensures rounds { limit.new.rounds ≡ limit.old.rounds }
     ensures counted { AreCounted tries.new.refused caller.new }
     ensures empty { taken.new.items ≡ [] }
 {
     for each in taken.drain(..) {
-        call_back(rt, library, gate, caller, tries, each);
+        call_back(rt, library, gate, caller, tries, limit, each);
     }
 }
 
 /// Results go out in a row, if the look showed one, and their callbacks are called.
-fn take_and_call<L: Naming, C: Callback, D: Device, J: Recorder, G: Gate, R: Wait>(
+fn take_and_call<L: Naming, C: Callback + Payload, D: Device, J: Recorder, G: Gate, R: Wait>(
     rt: &R,
     library: &Library<L, C, D, J>,
     gate: &mut G,
     caller: &mut Caller<L>,
     past: &mut Past<L>,
     tries: &mut Tries,
+    limit: &mut Limit,
     events: &Events,
     taken: &mut Vec<Taken<C>>,
 )
     requires counted { AreCounted tries.old.refused caller.old }
+    requires called { limit.old.called ≤ called_in caller.old.own }
     requires empty { taken.old.items ≡ [] }
-    ensures made { CallsBackIf L.setup (MayAnswer C.may_answer C.rule) events.now.take caller.old caller.new }
+    ensures made { CallsBackIf L.setup (MayAnswer limit.old.rounds C.Whom.suits C.may_answer C.rule) events.now.take caller.old caller.new }
+    ensures called { limit.new.called ≤ called_in caller.new.own }
+    ensures rounds { limit.new.rounds ≡ limit.old.rounds }
     ensures counted { AreCounted tries.new.refused caller.new }
     ensures empty { taken.new.items ≡ [] }
 {
@@ -127,11 +145,11 @@ fn take_and_call<L: Naming, C: Callback, D: Device, J: Recorder, G: Gate, R: Wai
     gate.pass(rt, WorkerStep::Take);
     let most = gate.burst().max(1);
     take(rt, library, caller, past, tries, most, taken);
-    call_all(rt, library, gate, caller, tries, taken);
+    call_all(rt, library, gate, caller, tries, limit, taken);
 }
 
 /// What one look showed; it waits where that was nothing of its part.
-fn turn<L: Naming, C: Callback, D: Device, J: Recorder, G: Gate, R: Wait>(
+fn turn<L: Naming, C: Callback + Payload, D: Device, J: Recorder, G: Gate, R: Wait>(
     rt: &R,
     library: &Library<L, C, D, J>,
     gate: &mut G,
@@ -139,17 +157,21 @@ fn turn<L: Naming, C: Callback, D: Device, J: Recorder, G: Gate, R: Wait>(
     past: &mut Past<L>,
     tries: &mut Tries,
     parking: &mut Parking,
+    limit: &mut Limit,
     events: &Events,
     taken: &mut Vec<Taken<C>>,
 )
     requires counted { AreCounted tries.old.refused caller.old }
+    requires called { limit.old.called ≤ called_in caller.old.own }
     requires empty { taken.old.items ≡ [] }
-    ensures made { Handles L.setup (MayAnswer C.may_answer C.rule) events.now caller.old caller.new }
+    ensures made { Handles L.setup (MayAnswer limit.old.rounds C.Whom.suits C.may_answer C.rule) events.now caller.old caller.new }
+    ensures called { limit.new.called ≤ called_in caller.new.own }
+    ensures rounds { limit.new.rounds ≡ limit.old.rounds }
     ensures counted { AreCounted tries.new.refused caller.new }
     ensures empty { taken.new.items ≡ [] }
 {
     deliver(rt, library, gate, caller, past, tries, events);
-    take_and_call(rt, library, gate, caller, past, tries, events, taken);
+    take_and_call(rt, library, gate, caller, past, tries, limit, events, taken);
     if events.is_none() {
         parking.park(rt, library);
     }
@@ -161,22 +183,25 @@ fn turn<L: Naming, C: Callback, D: Device, J: Recorder, G: Gate, R: Wait>(
 /// is refused it says so (`has_lacked_memory`) and tries again; but once it was asked to stop, and a hundred tries in a row were refused,
 /// it gives up, and asks the other worker to end too. The caller comes back, and only where what it saw last has neither an event nor a
 /// result, or memory was refused to it a hundred times. Look by look it made what was there to be seen: events in a row;
-/// then results in a row, whose callbacks are called one by one, and behind the row, in its order, for each a verdict that it may give told,
-/// by its Answer, or by Stop where the transfer isn't submitted once more. What memory was refused to the caller has counted, and nothing else was made.
-pub fn event_loop<L: Naming, C: Callback, D: Device, J: Recorder, G: Gate, R: Wait>(
+/// then results in a row, whose callbacks are called one by one, and behind the row, in its order, for each the verdict told that a callback
+/// may give which suits its name, by its Answer, or by Stop where the transfer isn't submitted once more. Once `rounds` callbacks were
+/// called, each that is called then is at its end, whatever it answers. What memory was refused to the caller has counted, and nothing else was made.
+pub fn event_loop<L: Naming, C: Callback + Payload, D: Device, J: Recorder, G: Gate, R: Wait>(
     rt: &R,
     alloc: Global,
     library: &Library<L, C, D, J>,
     gate: &mut G,
     caller: Caller<L>,
+    rounds: u64,
 ) -> Caller<L>
-    ensures rounds { Rounds (ShowsEvents L.setup) (Handles L.setup (MayAnswer C.may_answer C.rule)) caller result }
+    ensures rounds { Rounds (ShowsEvents L.setup) (Handles L.setup (MayAnswer rounds C.Whom.suits C.may_answer C.rule)) caller result }
     ensures ended { HasEnded (LacksEvents L.setup) result }
 {
     let mut caller = caller;
     let mut tries = Tries::new();
     let mut parking = Parking::new(rt, alloc, library, WorkerPart::Events);
     let mut past = library.past(rt, &mut caller);
+    let mut limit = Limit::new(rounds);
     let mut taken = Vec::new(alloc);
     for _ in rt.forever() {
         let Some(events) = library.events(rt, &mut caller, &mut past) else {
@@ -190,6 +215,7 @@ pub fn event_loop<L: Naming, C: Callback, D: Device, J: Recorder, G: Gate, R: Wa
             &mut past,
             &mut tries,
             &mut parking,
+            &mut limit,
             &events,
             &mut taken,
         );

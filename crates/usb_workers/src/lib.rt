@@ -11,7 +11,8 @@
 //!
 //! - `controller.rt`, `event.rt`: the two loops
 //! - `answers.rt`: what a callback answered is told
-//! - `gate.rt`, `park.rt`, `tries.rt`: what a worker passes before each act; how it waits; how often it tries again
+//! - `gate.rt`, `park.rt`, `tries.rt`, `limit.rt`: what a worker passes before each act; how it waits; how often it tries again; how many
+//!   callbacks may answer as they like
 //! - `moments.rt`: a clock's milliseconds, for those who want to tick by one; nothing is promised of time
 //! - specs/Rounds: what is made of a look; how a verdict is told
 //!
@@ -31,12 +32,13 @@
 //!   what was to be done where the journal so far ended, and where it showed a packet a row of at least one was made at that
 //!   endpoint, and then the order (`Controls`), or memory was refused to it, which the caller counted; and nothing else
 //! - `event_loop`: likewise (`Handles`): where a look showed an event a row of them was handled; then a row of results went
-//!   out, and right behind it, in the same order, for each of these transfers some callback's verdict was told, which it may
-//!   give where it is told that and which fits its rule (`TellsAll`): by its Answer, behind which stands Stop just where that
+//!   out, and right behind it, in the same order, for each of these transfers a verdict was told (`TellsAll`) that a callback
+//!   which suits the transfer's name may give where it is told that, and that fits its rule (`MayAnswer`); or Stop, where more
+//!   than `rounds` callbacks were told something: by its Answer, behind which stands Stop just where that
 //!   was a resubmission that wasn't accepted; or, where memory was refused to that, by Stop, again and again until there was
 //!   memory, or the worker gave up. A row has no place only where nothing of its kind waited. What was refused is counted by
-//!   the caller, one by one: so where it counted none, each verdict was told as it was given. That it is the callback which
-//!   was submitted with the transfer is no clause
+//!   the caller, one by one: so where it counted none, each verdict was told as it was given. Which callbacks suit a name is their
+//!   type's to say (`Suiting`); that it is the very one which was submitted with the transfer is no clause
 //! - `Moments::at`: how many whole milliseconds an instant is behind the one from which they count: 0 for an earlier
 //!   one, 2^64 - 1 for one that is later than that. `start` and `now` read a clock, of which no contract speaks
 //!
@@ -55,7 +57,9 @@
 //!   (`LivedBy`): look by look the workers made what was there to be seen (`Rounds`), and each ended only where its last look
 //!   showed nothing of its part, or memory was refused to it a hundred times; each
 //!   driver made what it may make (`Driver::makes`) with what it left; no two callers have one
-//!   number, and each caller's places are those of its number. Whether nothing was left to be done where the run ends is told (`TellsRest`)
+//!   number, and each caller's places are those of its number. Whether nothing was left to be done where the run ends is told (`TellsRest`);
+//!   and where no want of memory is told (`lacked_memory`), memory was refused to none of them. `live_gated` is given after how many
+//!   callbacks each is at its end, whatever it answers; with `live` there is no such end
 //! - `make`, `handle_of`: where something is answered, the step was made and its receipt has it
 //!   (`Makes`), else nothing changed; whose its entry is, in any world, where a handle is named; and that there is
 //!   none just for steps that submit, and for those of workers, clocks and callbacks
@@ -74,6 +78,7 @@ mod event;
 mod gate;
 mod gates;
 mod life;
+mod limit;
 mod moments;
 mod park;
 mod promises;

@@ -1,6 +1,7 @@
 //! A library from its opening to its end.
 
-ghost use Rattle.std.specs.Prelude.{◌≡◌, ◌∷◌, IfOk, map};
+ghost use Rattle.std.specs.Prelude.{◌≡◌, ◌==◌, ◌-◌, ◌^◌, ◌∷◌, false, true, IfOk, map};
+ghost use Rattle.std.specs.List.{list_all};
 ghost use Rattle.usb_core.specs.Public.{setup_of};
 ghost use Rattle.usb_workers.specs.Rounds.{MayAnswer};
 ghost use Rattle.usb_workers.specs.Life.{AreAll, KeepsRun, LivedBy, TellsRest};
@@ -17,7 +18,7 @@ use std::thread::Threads;
 use usb_core::{Callback, Core, Setup};
 use usb_device::Device;
 use usb_journal::{Naming, Recorder, WholeJournal};
-use usb_library::{Caller, Library, Opening};
+use usb_library::{Caller, Library, Opening, Payload};
 
 /// What a library that lived leaves, and its drivers.
 #[derive(Drop)]
@@ -34,8 +35,8 @@ pub struct Lived<C, D: Device, J, X> {
     pub left: Vec<X>,
     /// Whether nothing was left to be done, and no transfer was in its callback. It is so unless a worker gave up for want of memory.
     pub at_rest: bool,
-    /// Whether a worker was refused memory. It tried again; but a callback may have ended early for it, or a transfer be in flight
-    /// still.
+    /// Whether memory was refused to one of the callers, a worker's or a driver's. A worker tried again; but a callback may have ended early
+    /// for it, or a transfer be in flight still.
     pub lacked_memory: bool,
     /// How many callbacks ended early: their verdict was to submit the transfer once more, and that was refused, or there was no memory.
     pub cuts: u64,
@@ -46,7 +47,7 @@ pub struct Lived<C, D: Device, J, X> {
 /// driver has a thread of its own, and so have the two workers. An error where memory is refused to what isn't a worker, or a thread
 /// can't be made; what workers met is told in `Lived`.
 pub fn live<
-    C: Callback + Send,
+    C: Callback + Payload + Send,
     D: Device + Send,
     J: Recorder + Send,
     T: Driver<C> + Drop + Send,
@@ -59,17 +60,19 @@ pub fn live<
 ) -> Result<Lived<C, D, J, T::Left>, AllocError>
 where
     J::Draft: Send,
+    C::Whom: Send,
     T::Left: Drop + Send,
     ensures run { IfOk result (λ l. KeepsRun J.stands (setup_of setup) l.journal l.kept l.places l.core) }
     ensures rest { IfOk result (λ l. TellsRest (setup_of setup) l.journal l.at_rest) }
-    ensures by { IfOk result (λ l. LivedBy (MayAnswer C.may_answer C.rule) T.makes (setup_of setup) l.journal drivers.items l.left.items) }
+    ensures by { IfOk result (λ l. LivedBy (MayAnswer (2 ^ 64 - 1) C.Whom.suits C.may_answer C.rule) T.makes (setup_of setup) l.journal drivers.items l.left.items l.lacked_memory) }
 {
-    live_gated::<C, D, J, Open, T, R>(rt, alloc, setup, Gates::open(), drivers)
+    live_gated::<C, D, J, Open, T, R>(rt, alloc, setup, Gates::open(), u64::MAX, drivers)
 }
 
-/// The same with gates, which the workers pass before each of their acts.
+/// The same with gates, which the workers pass before each of their acts; and where only so many callbacks may answer as they like: each that
+/// is called behind those is at its end, whatever it answers.
 pub fn live_gated<
-    C: Callback + Send,
+    C: Callback + Payload + Send,
     D: Device + Send,
     J: Recorder + Send,
     G: Gate + Drop + Send,
@@ -80,25 +83,27 @@ pub fn live_gated<
     alloc: Global,
     setup: Setup<D>,
     gates: Gates<G>,
+    rounds: u64,
     drivers: Vec<T>,
 ) -> Result<Lived<C, D, J, T::Left>, AllocError>
 where
     J::Draft: Send,
+    C::Whom: Send,
     T::Left: Drop + Send,
     ensures run { IfOk result (λ l. KeepsRun J.stands (setup_of setup) l.journal l.kept l.places l.core) }
     ensures rest { IfOk result (λ l. TellsRest (setup_of setup) l.journal l.at_rest) }
-    ensures by { IfOk result (λ l. LivedBy (MayAnswer C.may_answer C.rule) T.makes (setup_of setup) l.journal drivers.items l.left.items) }
+    ensures by { IfOk result (λ l. LivedBy (MayAnswer rounds C.Whom.suits C.may_answer C.rule) T.makes (setup_of setup) l.journal drivers.items l.left.items l.lacked_memory) }
 {
     let Ok(opening) = Opening::new(alloc, setup) else {
         return Err(AllocError);
     };
-    named::<Brand, C, D, J, G, T, R>(rt, alloc, opening, gates, drivers)
+    named::<Brand, C, D, J, G, T, R>(rt, alloc, opening, gates, rounds, drivers)
 }
 
 /// The same over what a library is made of, under its name.
 fn named<
     L: Naming + Send + Sync,
-    C: Callback + Send,
+    C: Callback + Payload + Send,
     D: Device + Send,
     J: Recorder + Send,
     G: Gate + Drop + Send,
@@ -109,10 +114,12 @@ fn named<
     alloc: Global,
     opening: Opening<D>,
     gates: Gates<G>,
+    rounds: u64,
     drivers: Vec<T>,
 ) -> Result<Lived<C, D, J, T::Left>, AllocError>
 where
     J::Draft: Send,
+    C::Whom: Send,
     T::Left: Drop + Send,
     requires name { opening.name ≡ L.name }
     requires parts { (L.parts ≡ 1025) × (opening.parts ≡ L.parts) }
@@ -120,7 +127,7 @@ where
     requires setup { opening.setup ≡ L.setup }
     ensures run { IfOk result (λ l. KeepsRun J.stands L.setup l.journal l.kept l.places l.core) }
     ensures rest { IfOk result (λ l. TellsRest L.setup l.journal l.at_rest) }
-    ensures by { IfOk result (λ l. LivedBy (MayAnswer C.may_answer C.rule) T.makes L.setup l.journal drivers.items l.left.items) }
+    ensures by { IfOk result (λ l. LivedBy (MayAnswer rounds C.Whom.suits C.may_answer C.rule) T.makes L.setup l.journal drivers.items l.left.items l.lacked_memory) }
 {
     let library = Library::<L, C, D, J>::new(alloc, opening)?;
     let controller = Post {
@@ -132,12 +139,12 @@ where
         gate: gates.events,
     };
     let seats = seated(rt, alloc, &library, drivers)?;
-    let back = run_all(rt, alloc, &library, controller, events, seats)?;
+    let back = run_all(rt, alloc, &library, controller, events, rounds, seats)?;
     ended(alloc, library, back)
 }
 
 /// The library's end, once all its callers are back: its journal's places are theirs, and they know it.
-fn ended<L: Naming, C: Drop, D: Device, J: Recorder, X: Drop>(
+fn ended<L: Naming, C: Payload, D: Device, J: Recorder, X: Drop>(
     alloc: Global,
     library: Library<L, C, D, J>,
     back: Back<L, X>,
@@ -147,8 +154,10 @@ fn ended<L: Naming, C: Drop, D: Device, J: Recorder, X: Drop>(
     ensures rest { IfOk result (λ l. TellsRest L.setup l.journal l.at_rest) }
     ensures callers { IfOk result (λ l. AreAll l.journal (back.controller ∷ back.events ∷ map (λ h. h.caller) back.homes.items)) }
     ensures left { IfOk result (λ l. l.left.items ≡ map (λ h. h.left) back.homes.items) }
+    ensures lacks { IfOk result (λ l. l.lacked_memory ≡ false → list_all (λ c. c.missed == 0) (back.controller ∷ back.events ∷ map (λ h. h.caller) back.homes.items) ≡ true) }
 {
     let (callers, left) = apart(alloc, back)?;
+    let have_all = have_all(&callers);
     let Ok(ended) = library.finish(callers, Vec::new(alloc)) else {
         return Err(AllocError);
     };
@@ -160,9 +169,23 @@ fn ended<L: Naming, C: Drop, D: Device, J: Recorder, X: Drop>(
         core: ended.core,
         left,
         at_rest,
-        lacked_memory: ended.lacked_memory,
+        lacked_memory: ended.lacked_memory || !have_all,
         cuts: ended.cuts,
     })
+}
+
+/// Whether memory was refused to no call of a caller.
+fn has_all<L: Naming>(caller: &Caller<L>) -> bool
+    ensures { result ≡ (caller.now.missed == 0) }
+{
+    caller.missed() == 0
+}
+
+/// Whether it was refused to none of these.
+fn have_all<L: Naming>(callers: &[Caller<L>]) -> bool
+    ensures { result ≡ list_all (λ c. c.missed == 0) callers.now }
+{
+    callers.iter().all(|caller| has_all(caller))
 }
 
 /// All callers, and what the drivers left.

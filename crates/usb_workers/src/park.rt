@@ -6,7 +6,7 @@ use std::alloc::Global;
 use std::sync::Wait;
 use usb_device::Device;
 use usb_journal::{Naming, Recorder};
-use usb_library::{Library, WorkerPart};
+use usb_library::{Library, Payload, WorkerPart};
 
 /// How often a worker looks whether it was woken before it sleeps: some fifty microseconds, by pauses that double up to 64, and
 /// then by yields. What comes at all mostly comes within ten, and to be woken from sleep takes some more.
@@ -24,7 +24,7 @@ pub(crate) struct Parking {
 
 impl Parking {
     /// A parker that the library unparks where there may be work of this part, if there is memory for one.
-    pub(crate) fn new<L: Naming, P: Drop, D: Device, J: Recorder, R: Wait>(
+    pub(crate) fn new<L: Naming, P: Payload, D: Device, J: Recorder, R: Wait>(
         rt: &R,
         alloc: Global,
         library: &Library<L, P, D, J>,
@@ -38,7 +38,7 @@ impl Parking {
     }
 
     /// Waits for work since the last look; what came meanwhile lets it pass at once.
-    pub(crate) fn park<L: Naming, P: Drop, D: Device, J: Recorder, R: Wait>(
+    pub(crate) fn park<L: Naming, P: Payload, D: Device, J: Recorder, R: Wait>(
         &mut self,
         rt: &R,
         library: &Library<L, P, D, J>,
@@ -53,7 +53,7 @@ impl Parking {
 }
 
 /// Waits without sleeping until the part is woken once more than so often, but not for long: most often the next work comes soon.
-fn watch_for_a_while<L: Naming, P: Drop, D: Device, J: Recorder>(
+fn watch_for_a_while<L: Naming, P: Payload, D: Device, J: Recorder>(
     library: &Library<L, P, D, J>,
     part: WorkerPart,
     wakes: u64,
@@ -68,7 +68,7 @@ fn watch_for_a_while<L: Naming, P: Drop, D: Device, J: Recorder>(
 }
 
 /// A parker among the library's watchers.
-fn watched<L: Naming, P: Drop, D: Device, J: Recorder, R: Wait>(
+fn watched<L: Naming, P: Payload, D: Device, J: Recorder, R: Wait>(
     rt: &R,
     alloc: Global,
     library: &Library<L, P, D, J>,

@@ -7,7 +7,7 @@ use std::alloc::{AllocError, Global};
 use std::sync::Wait;
 use usb_device::Device;
 use usb_journal::{Naming, Recorder};
-use usb_library::{Caller, Library};
+use usb_library::{Caller, Library, Payload};
 
 /// A driver, with the caller of its calls.
 #[derive(Drop)]
@@ -24,7 +24,7 @@ pub(crate) struct Home<L: Naming, X> {
 }
 
 /// One more caller, which has no places yet. An error where the library has as many as it may.
-pub(crate) fn caller_of<L: Naming, C: Drop, D: Device, J: Recorder, R: Wait>(
+pub(crate) fn caller_of<L: Naming, C: Payload, D: Device, J: Recorder, R: Wait>(
     rt: &R,
     library: &Library<L, C, D, J>,
 ) -> Result<Caller<L>, AllocError>
@@ -37,7 +37,7 @@ pub(crate) fn caller_of<L: Naming, C: Drop, D: Device, J: Recorder, R: Wait>(
 }
 
 /// A caller for each driver, in order. An error where memory is refused, or there are too many.
-pub(crate) fn seated<L: Naming, C: Drop, D: Device, J: Recorder, T: Drop, R: Wait>(
+pub(crate) fn seated<L: Naming, C: Payload, D: Device, J: Recorder, T: Drop, R: Wait>(
     rt: &R,
     alloc: Global,
     library: &Library<L, C, D, J>,
@@ -55,7 +55,7 @@ pub(crate) fn seated<L: Naming, C: Drop, D: Device, J: Recorder, T: Drop, R: Wai
 }
 
 /// A driver makes its calls.
-pub(crate) fn drive<L: Naming, C, D: Device, J: Recorder, T: Driver<C>, R: Wait>(
+pub(crate) fn drive<L: Naming, C: Payload, D: Device, J: Recorder, T: Driver<C>, R: Wait>(
     rt: &R,
     library: &Library<L, C, D, J>,
     seat: Seat<L, T>,

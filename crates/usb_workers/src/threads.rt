@@ -16,7 +16,7 @@ use std::thread::{PromisedHandle, Scope, Threads};
 use usb_core::Callback;
 use usb_device::Device;
 use usb_journal::{Naming, Recorder};
-use usb_library::{Caller, Library};
+use usb_library::{Caller, Library, Payload};
 
 /// A worker's caller, and its gate.
 #[derive(Drop)]
@@ -34,7 +34,7 @@ pub(crate) struct Back<L: Naming, X> {
 }
 
 /// The controller's part, in its thread.
-fn control<L: Naming, C: Callback, D: Device, J: Recorder, G: Gate + Drop, R: Wait>(
+fn control<L: Naming, C: Callback + Payload, D: Device, J: Recorder, G: Gate + Drop, R: Wait>(
     rt: &R,
     alloc: Global,
     library: &Library<L, C, D, J>,
@@ -47,16 +47,17 @@ fn control<L: Naming, C: Callback, D: Device, J: Recorder, G: Gate + Drop, R: Wa
 }
 
 /// Events and callbacks, in theirs.
-fn handle<L: Naming, C: Callback, D: Device, J: Recorder, G: Gate + Drop, R: Wait>(
+fn handle<L: Naming, C: Callback + Payload, D: Device, J: Recorder, G: Gate + Drop, R: Wait>(
     rt: &R,
     alloc: Global,
     library: &Library<L, C, D, J>,
     post: Post<L, G>,
+    rounds: u64,
 ) -> Caller<L>
-    ensures { HandlesAll L.setup (MayAnswer C.may_answer C.rule) post.caller result }
+    ensures { HandlesAll L.setup (MayAnswer rounds C.Whom.suits C.may_answer C.rule) post.caller result }
 {
     let Post { caller, mut gate } = post;
-    event_loop(rt, alloc, library, &mut gate, caller)
+    event_loop(rt, alloc, library, &mut gate, caller, rounds)
 }
 
 /// The thread of the controller's part; None where none can be made.
@@ -64,7 +65,7 @@ fn start_controller<
     's,
     E: 's,
     L: Naming + Send + Sync + 's,
-    C: Callback + Send + 's,
+    C: Callback + Payload + Send + 's,
     D: Device + Send + 's,
     J: Recorder + Send + 's,
     G: Gate + Drop + Send + 's,
@@ -78,6 +79,7 @@ fn start_controller<
 ) -> Option<PromisedHandle<Caller<L>, Controlling<L>>>
 where
     J::Draft: Send,
+    C::Whom: Send,
     ensures { IfSome result (λ thread. thread.promise.caller.value ≡ post.caller) }
 {
     let promise = Controlling::of(&post.caller);
@@ -91,7 +93,7 @@ fn start_events<
     's,
     E: 's,
     L: Naming + Send + Sync + 's,
-    C: Callback + Send + 's,
+    C: Callback + Payload + Send + 's,
     D: Device + Send + 's,
     J: Recorder + Send + 's,
     G: Gate + Drop + Send + 's,
@@ -102,14 +104,16 @@ fn start_events<
     alloc: Global,
     library: &'s Library<L, C, D, J>,
     post: Post<L, G>,
+    rounds: u64,
 ) -> Option<PromisedHandle<Caller<L>, Handling<L, C>>>
 where
     J::Draft: Send,
-    ensures { IfSome result (λ thread. thread.promise.caller.value ≡ post.caller) }
+    C::Whom: Send,
+    ensures { IfSome result (λ thread. (thread.promise.caller.value ≡ post.caller) × (thread.promise.rounds ≡ rounds)) }
 {
-    let promise = Handling::of(&post.caller);
+    let promise = Handling::of(&post.caller, rounds);
     scope
-        .spawn_with(promise, move || handle(rt, alloc, library, post))
+        .spawn_with(promise, move || handle(rt, alloc, library, post, rounds))
         .ok()
 }
 
@@ -118,7 +122,7 @@ fn start_driver<
     's,
     E: 's,
     L: Naming + Send + Sync + 's,
-    C: Callback + Send + 's,
+    C: Callback + Payload + Send + 's,
     D: Device + Send + 's,
     J: Recorder + Send + 's,
     T: Driver<C> + Drop + Send + 's,
@@ -131,6 +135,7 @@ fn start_driver<
 ) -> Option<PromisedHandle<Home<L, T::Left>, Driving<L, C, T>>>
 where
     J::Draft: Send,
+    C::Whom: Send,
     T::Left: Drop + Send + 's,
     ensures { IfSome result (λ thread. thread.promise.seat.value ≡ seat) }
 {
@@ -145,7 +150,7 @@ fn start_drivers<
     's,
     E: 's,
     L: Naming + Send + Sync + 's,
-    C: Callback + Send + 's,
+    C: Callback + Payload + Send + 's,
     D: Device + Send + 's,
     J: Recorder + Send + 's,
     T: Driver<C> + Drop + Send + 's,
@@ -159,6 +164,7 @@ fn start_drivers<
 ) -> Result<(), AllocError>
 where
     J::Draft: Send,
+    C::Whom: Send,
     T::Left: Drop + Send + 's,
     ensures { IfOk result (λ _. map (λ t. t.promise.seat.value) threads.new.items ≡ map (λ t. t.promise.seat.value) threads.old.items ++ seats.items) }
 {
@@ -172,7 +178,7 @@ where
 }
 
 /// What all threads leave, once the last has ended.
-fn joined<L: Naming, C, T: Driver<C>, R: Threads>(
+fn joined<L: Naming, C: Payload, T: Driver<C>, R: Threads>(
     rt: &R,
     threads: Vec<PromisedHandle<Home<L, T::Left>, Driving<L, C, T>>>,
     mut homes: Vec<Home<L, T::Left>>,
@@ -188,7 +194,7 @@ fn joined<L: Naming, C, T: Driver<C>, R: Threads>(
 
 /// Room for what the drivers' threads are, and for what they leave. Nothing is in it yet.
 #[derive(Drop)]
-struct Room<L: Naming, C, T: Driver<C>> {
+struct Room<L: Naming, C: Payload, T: Driver<C>> {
     threads: Vec<PromisedHandle<Home<L, T::Left>, Driving<L, C, T>>>,
     homes: Vec<Home<L, T::Left>>,
     ghost fresh: { (threads.items ≡ []) × (homes.items ≡ []) },
@@ -199,7 +205,7 @@ fn run_scoped<
     's,
     E: 's,
     L: Naming + Send + Sync + 's,
-    C: Callback + Send + 's,
+    C: Callback + Payload + Send + 's,
     D: Device + Send + 's,
     J: Recorder + Send + 's,
     G: Gate + Drop + Send + 's,
@@ -212,21 +218,23 @@ fn run_scoped<
     library: &'s Library<L, C, D, J>,
     controller: Post<L, G>,
     events: Post<L, G>,
+    rounds: u64,
     seats: Vec<Seat<L, T>>,
     room: Room<L, C, T>,
 ) -> Result<Back<L, T::Left>, AllocError>
 where
     J::Draft: Send,
+    C::Whom: Send,
     T::Left: Drop + Send + 's,
     ensures controls { IfOk result (λ back. ControlsAll L.setup controller.caller back.controller) }
-    ensures handles { IfOk result (λ back. HandlesAll L.setup (MayAnswer C.may_answer C.rule) events.caller back.events) }
+    ensures handles { IfOk result (λ back. HandlesAll L.setup (MayAnswer rounds C.Whom.suits C.may_answer C.rule) events.caller back.events) }
     ensures drives { IfOk result (λ back. Each (λ s h. T.makes s.driver L.setup s.caller h.caller h.left) seats.items back.homes.items) }
 {
     let Room { mut threads, homes } = room;
     let Some(controller) = start_controller(scope, rt, alloc, library, controller) else {
         return Err(AllocError);
     };
-    let Some(events) = start_events(scope, rt, alloc, library, events) else {
+    let Some(events) = start_events(scope, rt, alloc, library, events, rounds) else {
         library.stop_workers(rt);
         return Err(AllocError);
     };
@@ -246,7 +254,7 @@ where
 /// joined. An error where memory is refused, or a thread can't be made: then too all that were made have ended.
 pub(crate) fn run_all<
     L: Naming + Send + Sync,
-    C: Callback + Send,
+    C: Callback + Payload + Send,
     D: Device + Send,
     J: Recorder + Send,
     G: Gate + Drop + Send,
@@ -258,13 +266,15 @@ pub(crate) fn run_all<
     library: &Library<L, C, D, J>,
     controller: Post<L, G>,
     events: Post<L, G>,
+    rounds: u64,
     seats: Vec<Seat<L, T>>,
 ) -> Result<Back<L, T::Left>, AllocError>
 where
     J::Draft: Send,
+    C::Whom: Send,
     T::Left: Drop + Send,
     ensures controls { IfOk result (λ back. ControlsAll L.setup controller.caller back.controller) }
-    ensures handles { IfOk result (λ back. HandlesAll L.setup (MayAnswer C.may_answer C.rule) events.caller back.events) }
+    ensures handles { IfOk result (λ back. HandlesAll L.setup (MayAnswer rounds C.Whom.suits C.may_answer C.rule) events.caller back.events) }
     ensures drives { IfOk result (λ back. Each (λ s h. T.makes s.driver L.setup s.caller h.caller h.left) seats.items back.homes.items) }
 {
     let room = Room {
@@ -275,7 +285,11 @@ where
         thread::scope_env(),
         rt,
         move |scope| -> Result<Back<L, T::Left>, AllocError>
-            requires { IsSync R.row × IsSend L.row × IsSync L.row × IsSend C.row × IsSend D.row × IsSend J.row × IsSend J.Draft.row × IsSend G.row × IsSend T.row × IsSend T.Left.row }
-        { run_scoped(scope, rt, alloc, library, controller, events, seats, room) },
+            requires { IsSync R.row × IsSend L.row × IsSync L.row × IsSend C.row × IsSend D.row × IsSend J.row × IsSend J.Draft.row × IsSend C.Whom.row × IsSend G.row × IsSend T.row × IsSend T.Left.row }
+        {
+            run_scoped(
+                scope, rt, alloc, library, controller, events, rounds, seats, room,
+            )
+        },
     )
 }

@@ -7,7 +7,7 @@ use std::thread::Parker;
 use std::time::Duration;
 use usb_device::Device;
 use usb_journal::{Naming, Recorder};
-use usb_library::Library;
+use usb_library::{Library, Payload};
 
 /// How often in a row a worker that was asked to stop is refused memory before it gives up.
 const MOST: u32 = 100;
@@ -41,7 +41,7 @@ impl Tries {
     }
 
     /// Memory was refused for a step: the library is told. The worker waits a moment, and then it may be tried again.
-    pub(crate) fn refused<L: Naming, P: Drop, D: Device, J: Recorder, R: Wait>(
+    pub(crate) fn refused<L: Naming, P: Payload, D: Device, J: Recorder, R: Wait>(
         &mut self,
         rt: &R,
         library: &Library<L, P, D, J>,
@@ -54,7 +54,7 @@ impl Tries {
     }
 
     /// Whether the worker gives up: it was asked to stop, and there is no memory for what is still to be done.
-    pub(crate) fn are_over<L: Naming, P: Drop, D: Device, J: Recorder>(
+    pub(crate) fn are_over<L: Naming, P: Payload, D: Device, J: Recorder>(
         &self,
         library: &Library<L, P, D, J>,
     ) -> bool

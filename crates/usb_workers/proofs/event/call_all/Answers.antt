@@ -1,5 +1,5 @@
-use Rattle.std.proofs.Common.{ap, append_assoc, map, sym, ◌++◌, ◌∙◌, ◌∷◌, []}
-use Rattle.std.proofs.lemmas.List.{map-append}
+use Rattle.std.proofs.Common.{ap, append_assoc, arith, length, map, subst, sym, ◌++◌, ◌∙◌, ◌∷◌, []}
+use Rattle.std.proofs.lemmas.List.{length-append, map-append}
 use Rattle.usb_workers.specs.Rounds.{MayAnswer}
 use Rattle.usb_workers.proofs.Told.{tells_more}
 use Rattle.usb_workers.proofs.event.call_all.Goals as goal
@@ -12,7 +12,11 @@ loop-each-preserved g c =
     record {
       told =
           rw (map-append (λ t. t.returned) c.loop-each.yielded (x ∷ []))
-          (tells_more g.L.Naming.setup (MayAnswer g.C.Callback.may_answer g.C.Callback.rule) (map (λ t. t.returned) c.loop-each.yielded) x.returned told.0 c.args.caller.now c.loop-each.caller c.call_back.new.caller i.told (x.payload, told.1, told.2) told.3);
+          (tells_more g.L.Naming.setup (MayAnswer c.args.limit.now.rounds g.C.Whom.Suiting.suits g.C.Callback.may_answer g.C.Callback.rule) (map (λ t. t.returned) c.loop-each.yielded) x.returned told.0 c.args.caller.now c.loop-each.caller c.call_back.new.caller i.told
+          (subst (λ n. MayAnswer n g.C.Whom.Suiting.suits g.C.Callback.may_answer g.C.Callback.rule c.loop-each.caller x.returned told.0) i.rounds told.1) told.2);
+      called = omega (arith, i.called, i.own, c.call_back.ensures.called.0, length-append c.loop-each.yielded (x ∷ []));
+      own = omega (arith, i.own, c.call_back.ensures.called.1);
+      rounds = c.call_back.ensures.rounds ∙ i.rounds;
       counted = c.call_back.ensures.counted;
       left = append_assoc c.loop-each.yielded (x ∷ []) _ ∙ (ap (λ l. c.loop-each.yielded ++ l) (sym c.in-Some.ensures.steps.0) ∙ i.left);
     }

@@ -18,8 +18,10 @@ scoped-requires g c =
           search sendable depth 12,
           search sendable depth 12,
           search sendable depth 12,
+          search sendable depth 12,
         ),
         (
+          search sendable depth 12,
           search sendable depth 12,
           search sendable depth 12,
           search sendable depth 12,

@@ -14,7 +14,7 @@ use Rattle.usb_library.proofs.library.Library.deliver_all.Goals as goal
 pub wake_row-requires : goal.wake_row-requires
 wake_row-requires g c =
     let x = c.in_ok-delivered.delivered in
-    let b = c.deref_mut.result.now.book in
+    let b = c.behind-lock.inside.book in
     let e = c.deliver_all-made.ensures in
     let is = sym c.counted.ensures.given ∙ c.in_ok-delivered.was in
     let last = row_of_book g.L.Naming.setup (λ y. replicate y.row.count Deliver) (λ y. y.row) b c.deliver_all-made.new.self _ _ _ c.counted.new.self c.deliver_all-made.result x is e.made e.library c.counted.ensures.made in
@@ -26,4 +26,4 @@ pub returns-clause-made : goal.returns-clause-made
 returns-clause-made g c =
     let x = c.in_ok-delivered.delivered in
     let e = c.deliver_all-made.ensures in
-    makes_row g.L.Naming.setup (λ y. replicate y.row.count Deliver) (λ y. y.row) c.deref_mut.result.now.book c.deliver_all-made.new.self _ _ _ _ c.counted.new.self c.deliver_all-made.result x (sym c.counted.ensures.given ∙ c.in_ok-delivered.was) e.made e.library c.counted.ensures.made c.caller.view_is
+    makes_row g.L.Naming.setup (λ y. replicate y.row.count Deliver) (λ y. y.row) c.behind-lock.inside.book c.deliver_all-made.new.self _ _ _ _ c.counted.new.self c.deliver_all-made.result x (sym c.counted.ensures.given ∙ c.in_ok-delivered.was) e.made e.library c.counted.ensures.made c.caller.view_is

@@ -14,7 +14,7 @@ use Rattle.usb_library.proofs.library.Library.serve_all.Goals as goal
 pub wake_row-requires : goal.wake_row-requires
 wake_row-requires g c =
     let x = c.in_ok-served.served in
-    let b = c.deref_mut-2.result.now.book in
+    let b = c.behind-guarded-2.inside.book in
     let e = c.serve_all-made.ensures in
     let is = sym c.counted.ensures.given ∙ c.in_ok-served.was in
     let last = row_of_book g.L.Naming.setup (λ y. replicate y.row.count (Serve c.args.dev c.args.ep)) (λ y. y.row) b c.serve_all-made.new.self _ _ _ c.counted.new.self c.serve_all-made.result x is e.made e.library c.counted.ensures.made in
@@ -26,4 +26,4 @@ pub returns-clause-made : goal.returns-clause-made
 returns-clause-made g c =
     let x = c.in_ok-served.served in
     let e = c.serve_all-made.ensures in
-    makes_row g.L.Naming.setup (λ y. replicate y.row.count (Serve c.args.dev c.args.ep)) (λ y. y.row) c.deref_mut-2.result.now.book c.serve_all-made.new.self _ _ _ _ c.counted.new.self c.serve_all-made.result x (sym c.counted.ensures.given ∙ c.in_ok-served.was) e.made e.library c.counted.ensures.made c.caller.view_is
+    makes_row g.L.Naming.setup (λ y. replicate y.row.count (Serve c.args.dev c.args.ep)) (λ y. y.row) c.behind-guarded-2.inside.book c.serve_all-made.new.self _ _ _ _ c.counted.new.self c.serve_all-made.result x (sym c.counted.ensures.given ∙ c.in_ok-served.was) e.made e.library c.counted.ensures.made c.caller.view_is

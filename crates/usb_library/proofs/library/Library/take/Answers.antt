@@ -9,6 +9,6 @@ pub wake_if-requires : goal.wake_if-requires
 wake_if-requires g c =
     let e = c.take-made.ensures in
     let last =
-    of_book g.L.Naming.setup c.deref_mut.result.now.book Take _ (λ o. called_entry (option_map (λ t. t.returned) o)) c.take-made.result c.in_ok-receipt.receipt c.in_ok-receipt.taken _ _ _ _ c.counted.new.self (sym c.counted.ensures.given ∙ c.in_ok-receipt.was) e.receipt e.journal e.entry e.saw e.library
+    of_book g.L.Naming.setup c.behind-lock.inside.book Take _ (λ o. called_entry (option_map (λ t. t.returned) o)) c.take-made.result c.in_ok-receipt.receipt c.in_ok-receipt.taken _ _ _ _ c.counted.new.self (sym c.counted.ensures.given ∙ c.in_ok-receipt.was) e.receipt e.journal e.entry e.saw e.library
     c.counted.ensures.made refl in
     take_wakes g.L.Naming.setup c.counted.new.self.seen c.in_ok-receipt.receipt _ c.is_some.result last

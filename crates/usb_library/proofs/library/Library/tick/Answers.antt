@@ -13,14 +13,14 @@ it_is P r x e a = subst (λ s. IfOk s P) e a
 
 pub returns-clause-ticked : goal.returns-clause-ticked
 returns-clause-ticked g c =
-    let journal = c.deref_mut.result.now.book.journal in
+    let journal = c.behind-lock.inside.book.journal in
     let after = c.tick-made.new.self.journal in
     let e = c.tick-made.ensures in
     let is : c.tick-made.result ≡ Ok c.in_ok-receipts.receipts = sym c.counted.ensures.given ∙ c.in_ok-receipts.was in
     let same = there c.tick-made.result c.in_ok-receipts.receipts is c.counted.ensures.made in
     let saw = there c.tick-made.result c.in_ok-receipts.receipts is e.saw in record {
       before = journal;
-      moment = max c.deref_mut.result.now.book.moment c.args.now;
+      moment = max c.behind-lock.inside.book.moment c.args.now;
       places = drop (length journal) after;
       late = omega arith;
       each = rw (← e.library, ← c.caller.view_is) (there c.tick-made.result c.in_ok-receipts.receipts is e.steps);
