@@ -19,9 +19,9 @@ use Rattle.usb_workers.specs.Rounds.{Controls, Handles}
 use Rattle.usb_workers.specs.Life.{Drives, Each, LivedBy, Returns}
 use Rattle.trace_live.specs.Calls.{HasCalls, calls_by, handle_of, is_call_of, is_lived, steps_in}
 use Rattle.trace_live.specs.Lines.{ArePlanned, has_steps}
-use Rattle.trace_live.proofs.Parts.{Lone, joined, joined-empty}
-use Rattle.trace_live.proofs.Shares.{Owns, all_passing, empty_dealt, empty_had, joined_dealt, joined_had, lone_dealt, lone_empty, lone_had, passing}
-use Rattle.trace_live.proofs.Workers.{Passes_none, controls, handles, rounds}
+use Rattle.trace_live.proofs.Parts.{Covers, Empty, Lone, joined, joined-empty}
+use Rattle.trace_live.proofs.Shares.{Owns, all_passing, empty_dealt, empty_had, joined_dealt, joined_had, lone_dealt, lone_empty, lone_had, passing, second_has}
+use Rattle.trace_live.proofs.Workers.{Passes_no_work, Passes_none, controls, handles, is_answer, rounds}
 
 -- a step is one handle's call at most
 apart : (g h : ℕ) (s : Step) → is_call_of g s ≡ true → is_call_of h s ≡ true → g ≡ h
@@ -33,13 +33,13 @@ apart g h s of_g of_h = by_handle (handle_of s) of_g of_h
 
 -- no worker makes one, nor what nobody makes here
 calls_silent : (h : ℕ) → Passes_none (is_call_of h)
-calls_silent h = record { serve = λ dev ep. refl; command = refl; deliver = refl; take = refl; answer = λ g n v. refl }
+calls_silent h = record { work = record { serve = λ dev ep. refl; command = refl }; deliver = refl; take = refl; answer = λ g n v. refl }
 
 abbrev unlived : Step → Bool
 unlived s = not (is_lived s)
 
 unlived_silent : Passes_none unlived
-unlived_silent = record { serve = λ dev ep. refl; command = refl; deliver = refl; take = refl; answer = λ g n v. refl }
+unlived_silent = record { work = record { serve = λ dev ep. refl; command = refl }; deliver = refl; take = refl; answer = λ g n v. refl }
 
 -- a handle's call is no such thing
 call_lives : (h : ℕ) (s : Step) → is_call_of h s ≡ true → unlived s ≡ false
@@ -58,6 +58,27 @@ call_lives h step.Command e = refl
 call_lives h step.Deliver e = refl
 call_lives h step.Take e = refl
 call_lives h (step.Answer g n v) e = refl
+
+-- nor is it a verdict
+call_tells_none : (h : ℕ) (s : Step) → is_call_of h s ≡ true → is_answer s ≡ false
+call_tells_none h (step.Answer g n v) e = absurd (true≢false (sym e))
+call_tells_none h (step.Expire g n) e = refl
+call_tells_none h (step.Unplug dev) e = refl
+call_tells_none h (step.Open g dev) e = refl
+call_tells_none h (step.Close g) e = refl
+call_tells_none h (step.Claim g i) e = refl
+call_tells_none h (step.Release g i) e = refl
+call_tells_none h (step.Reset g) e = refl
+call_tells_none h (step.ClearHalt g ep) e = refl
+call_tells_none h (step.Submit g request) e = refl
+call_tells_none h (step.Cancel g n) e = refl
+call_tells_none h (step.Serve dev ep) e = refl
+call_tells_none h step.Command e = refl
+call_tells_none h step.Deliver e = refl
+call_tells_none h step.Take e = refl
+
+work_tells_none : Passes_no_work is_answer
+work_tells_none = record { serve = λ dev ep. refl; command = refl }
 
 all_live : (steps : List Step) → filter unlived steps ≡ [] → list_all is_lived steps ≡ true
 all_live [] e = refl
@@ -105,31 +126,41 @@ module _ {X : Type 0} (ended : X → Type 0) (makes : List Step → Setup → Ca
   homes_made test [] (h ∷ hs) drives ends = absurd drives
   homes_made test (d ∷ ds) [] drives ends = absurd drives
 
-  module _ (may : Returned → Verdict → Type 0) (journal : List Place) (drivers : List (List Step)) (left : List X) (lived : LivedBy may makes setup journal drivers left) (ends : All ended left) where
+  module _ (may : Calling → Returned → Verdict → Type 0) (journal : List Place) (drivers : List (List Step)) (left : List X) (lacked : Bool) (lived : LivedBy may makes setup journal drivers left lacked) (ends : All ended left) where
     abbrev callers : List Calling
     callers = lived.controller ∷ lived.events ∷ map (λ (h : Returns X). h.caller) lived.homes
 
     homes_end : (k : ℕ) (x : X) → k < length lived.homes → ended (get_or (map (λ (h : Returns X). h.left) lived.homes) k x)
     homes_end k x lt = subst (λ l. ended (get_or l k x)) lived.leaves (ends k x (subst (λ n. k < n) (sym (ap length lived.leaves ∙ length-map lived.homes (λ (h : Returns X). h.left))) lt))
 
-    quiet_controller : (test : Step → Bool) → Passes_none test → passes_of test lived.controller ≡ []
+    quiet_controller : (test : Step → Bool) → Passes_no_work test → passes_of test lived.controller ≡ []
     quiet_controller test silent =
-        rounds setup test silent (ShowsPending setup) (Controls setup) (controls setup test silent) lived.controls.0 lived.controller lived.controls.2.rounds (ap (λ l. filter test (steps_of l)) lived.controls.1)
+        rounds setup test (ShowsPending setup) (Controls setup) (controls setup test silent) lived.controls.0 lived.controller lived.controls.2.rounds (ap (λ l. filter test (steps_of l)) lived.controls.1)
 
     quiet_events : (test : Step → Bool) → Passes_none test → passes_of test lived.events ≡ []
     quiet_events test silent =
-        rounds setup test silent (ShowsEvents setup) (Handles setup may) (handles setup test silent may) lived.handles.0 lived.events lived.handles.2.rounds (ap (λ l. filter test (steps_of l)) lived.handles.1)
+        rounds setup test (ShowsEvents setup) (Handles setup may) (handles setup test silent may) lived.handles.0 lived.events lived.handles.2.rounds (ap (λ l. filter test (steps_of l)) lived.handles.1)
 
     -- what passes in the run is what passes of the lines, where one handle at most has some
     passes_in : (test : Step → Bool) → Passes_none test → Lone (map (filter test) drivers) → filter test (steps_of journal) ≡ joined (map (filter test) drivers)
     passes_in test silent few =
-        let c = quiet_controller test silent in
+        let c = quiet_controller test silent.work in
         let e = quiet_events test silent in
         let h = homes_made test drivers lived.homes lived.drives homes_end in
         all_passing caller_of (λ (x : Calling). x.number) (λ (x : Calling). x.own) (λ (p : Place). p.step) test journal callers (owns journal callers lived.all.knows) lived.all.numbers lived.all.counted
         (inl (c, inl (e, subst Lone (sym h) few)))
         ∙ (ap (λ l. l ++ joined (map (passes_of test) (lived.events ∷ map (λ (h : Returns X). h.caller) lived.homes))) c
         ∙ (ap (λ l. l ++ joined (map (passes_of test) (map (λ (h : Returns X). h.caller) lived.homes))) e ∙ ap joined h))
+
+    -- and a verdict is told by nobody but the worker that handles events
+    pub answers_are : (plan : List Plan) → ArePlanned drivers plan → Covers caller_of (λ (p : Place). is_answer p.step) (λ p. caller_of p == lived.events.number) journal
+    answers_are plan planned =
+        let all = planned.0 in
+        let each : (i : ℕ) → i < length all → get_or all i [] ≡ calls_by (0 + i) (steps_in plan) = λ i lt. planned.1.each i (subst (λ n. i < n) planned.1.all lt) ∙ ap (λ n. calls_by n (steps_in plan)) (let at : i ≡ 0 + i = omega arith in at) in
+        let none = empty_had is_answer has_steps only_empty all (empty_dealt is_call_of apart is_answer call_tells_none (steps_in plan) 0 all each) in
+        second_has caller_of (λ (x : Calling). x.number) (λ (x : Calling). x.own) (λ (p : Place). p.step) is_answer journal lived.controller lived.events (map (λ (h : Returns X). h.caller) lived.homes)
+        (owns journal callers lived.all.knows) lived.all.numbers lived.all.counted
+        (quiet_controller is_answer work_tells_none, subst Empty (sym (homes_made is_answer drivers lived.homes lived.drives homes_end)) (subst (λ ds. Empty (map (filter is_answer) ds)) (sym planned.2) none))
 
     -- so the calls of the plan are those of the run
     pub has_calls : (plan : List Plan) → ArePlanned drivers plan → HasCalls plan (steps_of journal)

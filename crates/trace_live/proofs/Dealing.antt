@@ -77,7 +77,7 @@ map-at f (x ∷ xs) zero d e lt = refl
 map-at f (x ∷ xs) (suc i) d e lt = map-at f xs i d e (omega (arith, lt))
 
 -- what is pushed to a handle's lines is dealt to it
-pub dealt_at : (handles : List (List Line)) (from h : ℕ) (d pushed : List Line) (line : Line) (call : Option (ℕ × Step)) → from ≡ h → h < length handles → pushed ≡ get_or handles from d ++ line ∷ []
+pub dealt_at : {Q : Type 0} (handles : List (List (Line Q))) (from h : ℕ) (d pushed : List (Line Q)) (line : Line Q) (call : Option (ℕ × Step)) → from ≡ h → h < length handles → pushed ≡ get_or handles from d ++ line ∷ []
     → call ≡ Some (h, said_by line) → said_by_each (slice_set handles from pushed) ≡ dealt (said_by_each handles) call
 dealt_at handles from h d pushed line call at few push said =
     map-set said_by_all handles from pushed

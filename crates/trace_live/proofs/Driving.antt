@@ -15,11 +15,11 @@ pub one_call : (setup : Setup) (step : Step) (old new : Calling) (r : Receipted)
 one_call setup step old new r makes = ap steps_of makes.own ∙ (map-append (λ (p : Place). p.step) old.own (r.entry ∷ []) ∙ ap (λ s. steps_of old.own ++ s ∷ []) makes.asked)
 
 -- what was made and what is left come to the same
-pub one_line : (before after all : List Step) (line : Line) (lines left : List Line) → lines ≡ line ∷ left → after ≡ before ++ said_by line ∷ [] → before ++ said_by_all lines ≡ all → after ++ said_by_all left ≡ all
+pub one_line : {Q : Type 0} (before after all : List Step) (line : Line Q) (lines left : List (Line Q)) → lines ≡ line ∷ left → after ≡ before ++ said_by line ∷ [] → before ++ said_by_all lines ≡ all → after ++ said_by_all left ≡ all
 one_line before after all line lines left next more same = ap (λ l. l ++ said_by_all left) more ∙ (append_assoc before (said_by line ∷ []) (said_by_all left) ∙ (ap (λ l. before ++ said_by_all l) (sym next) ∙ same))
 
 -- where nothing is left all is made
-pub no_line : (made all : List Step) (lines : List Line) → lines ≡ [] → made ++ said_by_all lines ≡ all → made ≡ all
+pub no_line : {Q : Type 0} (made all : List Step) (lines : List (Line Q)) → lines ≡ [] → made ++ said_by_all lines ≡ all → made ≡ all
 no_line made all lines none same = sym (append-nil made) ∙ (ap (λ l. made ++ said_by_all l) (sym none) ∙ same)
 
 -- where a handle's thread ended well its lines are made

@@ -5,4 +5,7 @@ mod Parts
 mod Queues
 mod Reports
 mod Shares
+mod Submissions
+mod Telling
+mod Verdicts
 mod Workers

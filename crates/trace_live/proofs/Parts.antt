@@ -104,6 +104,10 @@ module _ {A : Type 0} (of : A → ℕ) (test : A → Bool) where
   others p (n ∷ ns) xs c e =
       others p ns xs (dropped n (λ x. p x || is_by ns x) xs (weaker (λ x. p x || ((of x == n) || is_by ns x)) (λ x. (of x == n) || (p x || is_by ns x)) (λ x t. or-swap (p x) (of x == n) (is_by ns x) t) xs c) e.0) e.1
 
+  -- where all parts but the second are empty, that one has all that pass
+  pub second : (c e : ℕ) (ns : List ℕ) (xs : List A) → Covers (is_by (c ∷ e ∷ ns)) xs → Empty (parts xs (c ∷ ns)) → Covers (λ x. of x == e) xs
+  second c e ns xs covers none = others (λ x. of x == e) ns xs (dropped c (is_by (e ∷ ns)) xs covers none.0) none.1
+
   -- where one at most has elements that pass, those are all that pass
   pub together : (ns : List ℕ) (xs : List A) → Covers (is_by ns) xs → Lone (parts xs ns) → filter test xs ≡ joined (parts xs ns)
   together [] xs c lone = nobody xs c

@@ -4,7 +4,7 @@ use Rattle.std.specs.List.{count_by, sum_by}
 use Rattle.std.proofs.lemmas.List.Sums.{sum_by-cons}
 use Rattle.std.proofs.lemmas.List.{map-append}
 use Rattle.std.proofs.lemmas.Bool.{eqb-true, eqb-false}
-use Rattle.trace_live.proofs.Parts.{Empty, Lone, all_theirs, joined, joined-empty, parts, times, together, total}
+use Rattle.trace_live.proofs.Parts.{Covers, Empty, Lone, all_theirs, joined, joined-empty, parts, second, times, together, total}
 
 -- a test of what elements become
 filter-map : {A S : Type 0} (st : A → S) (test : S → Bool) (xs : List A) → filter test (map st xs) ≡ map st (filter (λ x. test (st x)) xs)
@@ -88,6 +88,15 @@ module _ {A C S : Type 0} (of : A → ℕ) (number : C → ℕ) (own : C → Lis
       filter-map st test xs
       ∙ (ap (map st) (together of t ns xs (all_theirs of t ns (λ m. subst (λ n. n ≤ 1) (sym (times_is m cs)) (once m)) xs (counted ∙ total_is xs cs o)) (lone st (parts of t xs ns) (subst Lone (sym same) few)))
       ∙ (map-joined st (parts of t xs ns) ∙ ap joined same))
+
+  -- where all callers but the second have none that pass, those that pass are its own
+  pub second_has : (test : S → Bool) (xs : List A) (c e : C) (cs : List C) → Owns xs (c ∷ e ∷ cs) → ((m : ℕ) → count_by (λ c. number c == m) (c ∷ e ∷ cs) ≤ 1) → length xs ≡ sum_by (λ c. length (own c)) (c ∷ e ∷ cs)
+      → Empty (map (passing test) (c ∷ cs)) → Covers of (λ x. test (st x)) (λ x. of x == number e) xs
+  second_has test xs c e cs o once counted none =
+      let all = c ∷ e ∷ cs in
+      let t : A → Bool = λ x. test (st x) in
+      second of t (number c) (number e) (map number cs) xs (all_theirs of t (map number all) (λ m. subst (λ n. n ≤ 1) (sym (times_is m all)) (once m)) xs (counted ∙ total_is xs all o))
+      (all_empty st (parts of t xs (map number (c ∷ cs))) (subst Empty (sym (mapped_parts test xs (c ∷ cs) (o.0, o.1.1))) none))
 
 -- lists that were dealt from one; by: whose a step is
 module _ {S : Type 0} (by : ℕ → S → Bool) (apart : (g h : ℕ) (s : S) → by g s ≡ true → by h s ≡ true → g ≡ h) where

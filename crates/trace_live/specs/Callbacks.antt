@@ -1,5 +1,5 @@
 -- What the callbacks of a library were told.
-use Rattle.std.specs.Prelude.{◌+◌, ◌*◌, ◌^◌, ℕ, Bool, true, false, List, filter}
+use Rattle.std.specs.Prelude.{◌+◌, ◌*◌, ◌^◌, ℕ, Bool, List, filter}
 use Rattle.std.specs.List.Sorted.{IsNonDecreasingBy, IsPermutation}
 use Rattle.usb_model.specs.declared.entry.Entry.{Entry}
 use Rattle.usb_model.specs.declared.reply.Reply.{Reply}
@@ -7,11 +7,7 @@ use Rattle.usb_model.specs.declared.reply.Reply.TheVariants.{Called}
 use Rattle.usb_model.specs.declared.step.Step.{Step}
 use Rattle.usb_model.specs.Setup.{Setup}
 use Rattle.usb_model.specs.World.Journal.{world_run}
-
--- whether a reply tells a callback something
-abbrev pub is_called : Reply → Bool
-is_called (Called r) = true
-is_called reply = false
+use Rattle.usb_workers.specs.Rounds.{is_called}
 
 abbrev pub is_callback : Entry → Bool
 is_callback e = is_called e.reply

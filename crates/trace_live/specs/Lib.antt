@@ -2,3 +2,4 @@ pub mod Callbacks
 pub mod Calls
 pub mod Lines
 pub mod Unfinished
+pub mod Verdicts

@@ -10,13 +10,13 @@ use Rattle.trace_live.specs.declared.queue.Coming.{Coming}
 use Rattle.crossbeam_channel.specs.Claims.{Pass, view}
 use Rattle.trace_live.specs.Calls.{calls_by, handle_of, steps_in}
 
--- the step that a line says
-abbrev pub said_by : Line → Step
-said_by (Submit h request rule) = IsSubmit h request
+-- the step that a line says; a submission is that of its callback's handle
+abbrev pub said_by : {Q : Type 0} → Line Q → Step
+said_by (Submit request callback) = IsSubmit callback.0 request
 said_by (Call step) = step
 
 -- those of lines, in order
-abbrev pub said_by_all : List Line → List Step
+abbrev pub said_by_all : {Q : Type 0} → List (Line Q) → List Step
 said_by_all lines = map said_by lines
 
 -- the call that a piece of a plan says, with its handle
@@ -25,19 +25,19 @@ call_in (Do step) = option_map (λ h. (h, step)) (handle_of step)
 call_in (Return h n) = None
 
 -- those of the lines of each handle, by its name
-abbrev pub said_by_each : List (List Line) → List (List Step)
+abbrev pub said_by_each : {Q : Type 0} → List (List (Line Q)) → List (List Step)
 said_by_each handles = map said_by_all handles
 
 -- what is known of a channel: these lines are in it
-abbrev pub coming : List Line → Coming
+abbrev pub coming : {Q : Type 0} → List (Line Q) → Coming Q
 coming lines = record { lines = lines }
 
 -- the lines that are known by a pass
-abbrev pub known : Pass Line Coming → List Line
+abbrev pub known : {Q : Type 0} → Pass (Line Q) (Coming Q) → List (Line Q)
 known pass = (view pass).lines
 
 -- one thread knows what is in the channel, all of it, oldest first
-abbrev pub InOrder : List Line → List Coming → Type 0
+abbrev pub InOrder : {Q : Type 0} → List (Line Q) → List (Coming Q) → Type 0
 InOrder lines views = views ≡ coming lines ∷ []
 
 -- steps of each handle, with one call more behind those of its own

@@ -1,10 +1,12 @@
 //! The handles of a plan, each with its lines in a channel.
 
-ghost use Rattle.std.specs.Prelude.{◌≡◌, ◌<◌, [], IfOk, IfSome, length, replicate};
+ghost use Rattle.std.specs.Prelude.{◌≡◌, ◌<◌, ◌∷◌, [], IfOk, IfSome, length, replicate};
+ghost use Rattle.usb_model.specs.World.Plans.{rules_after};
 ghost use Rattle.trace_live.specs.Lines.{AreDealt, ArePlanned, call_in, dealt, said_by_each};
+ghost use Rattle.trace_live.specs.Verdicts.{AreGiven, ruled};
 
-use crate::counted::{Budget, Counted};
 use crate::line::Line;
+use crate::planned::{Planned, PlannedCallback};
 use crate::queue::Queue;
 use std::alloc::{AllocError, Global};
 use std::marker::Model;
@@ -20,12 +22,11 @@ const HANDLES: usize = 64;
 
 /// The thread of a handle: makes its lines, as they come out of their channel. Contracts see the steps that they say.
 #[derive(Drop)]
-pub(crate) struct Handle {
-    lines: Queue,
-    budget: Budget,
+pub(crate) struct Handle<Q: Planned> {
+    lines: Queue<Q>,
 }
 
-impl Model for Handle {
+impl<Q: Planned> Model for Handle<Q> {
     ghost use Rattle.std.specs.Prelude.{List};
     ghost use Rattle.usb_model.specs.declared.step.Step.{Step};
     ghost use Rattle.trace_live.specs.Lines.{said_by_all};
@@ -36,7 +37,7 @@ impl Model for Handle {
 }
 
 /// Where it ends well it has made each of its lines, in order, and nothing else.
-impl Driver<Counted> for Handle {
+impl<Q: Planned> Driver<PlannedCallback<Q>> for Handle<Q> {
     ghost use Rattle.std.specs.Prelude.{◌≡◌, ◌++◌, OnOk};
     ghost use Rattle.usb_journal.specs.Booked.{steps_of};
 
@@ -47,22 +48,22 @@ impl Driver<Counted> for Handle {
     fn drive<L: Naming, D: Device, J: Recorder, R: Wait>(
         self,
         rt: &R,
-        library: &Library<L, Counted, D, J>,
+        library: &Library<L, PlannedCallback<Q>, D, J>,
         caller: &mut Caller<L>,
     ) -> Result<(), AllocError> {
-        let Handle { mut lines, budget } = self;
+        let Handle { mut lines } = self;
         for _ in rt.forever() {
             let Some(line) = lines.next(rt) else {
                 break;
             };
-            line.make(rt, library, caller, &budget)?;
+            line.make(rt, library, caller)?;
         }
         Ok(())
     }
 }
 
 /// No lines yet, of each handle by its name.
-fn no_lines(alloc: Global) -> Result<Vec<Sequence<Line>>, AllocError>
+fn no_lines<Q: Planned>(alloc: Global) -> Result<Vec<Sequence<Line<Q>>>, AllocError>
     ensures { IfOk result (λ handles. said_by_each handles.items ≡ replicate 64 []) }
 {
     let mut handles = Vec::with_capacity(alloc, HANDLES)?;
@@ -73,11 +74,17 @@ fn no_lines(alloc: Global) -> Result<Vec<Sequence<Line>>, AllocError>
 }
 
 /// Puts what a piece of a plan says behind the lines of its handle. `rules` are those of the submissions from here on.
-fn deal(handles: &mut [Sequence<Line>], piece: Plan, rules: &mut &[Rule]) -> Result<(), AllocError>
-    requires { length handles.old ≡ 64 }
+fn deal<Q: Planned>(
+    handles: &mut [Sequence<Line<Q>>],
+    piece: Plan,
+    rules: &mut &[Rule],
+) -> Result<(), AllocError>
+    requires all { length handles.old ≡ 64 }
+    requires given { AreGiven Q.given (ruled (piece ∷ []) rules.old.now) }
     ensures dealt { IfOk result (λ _. said_by_each handles.new ≡ dealt (said_by_each handles.old) (call_in piece)) }
     ensures same { length handles.new ≡ length handles.old }
     ensures named { IfOk result (λ _. IfSome (call_in piece) (λ call. call.0 < 64)) }
+    ensures rules { rules.new.now ≡ rules_after piece rules.old.now }
 {
     match Line::of(piece, rules) {
         None => Ok(()),
@@ -86,11 +93,12 @@ fn deal(handles: &mut [Sequence<Line>], piece: Plan, rules: &mut &[Rule]) -> Res
 }
 
 /// The lines of each handle, by its name.
-fn lines_of(
+fn lines_of<Q: Planned>(
     alloc: Global,
     plan: Sequence<Plan>,
     rules: &[Rule],
-) -> Result<Vec<Sequence<Line>>, AllocError>
+) -> Result<Vec<Sequence<Line<Q>>>, AllocError>
+    requires given { AreGiven Q.given (ruled plan rules.now) }
     ensures { IfOk result (λ handles. AreDealt (said_by_each handles.items) plan) }
 {
     let mut handles = no_lines(alloc)?;
@@ -102,21 +110,20 @@ fn lines_of(
 }
 
 /// The handles of a plan that have lines, by their names.
-pub(crate) fn handles_of<R: Wait>(
+pub(crate) fn handles_of<Q: Planned, R: Wait>(
     rt: &R,
     alloc: Global,
     plan: Sequence<Plan>,
     rules: &[Rule],
-    budget: &Budget,
-) -> Result<Vec<Handle>, AllocError>
+) -> Result<Vec<Handle<Q>>, AllocError>
+    requires given { AreGiven Q.given (ruled plan rules.now) }
     ensures { IfOk result (λ handles. ArePlanned handles.items plan) }
 {
     let mut handles = Vec::new(alloc);
-    for lines in lines_of(alloc, plan, rules)? {
+    for lines in lines_of::<Q>(alloc, plan, rules)? {
         if !lines.is_empty() {
             handles.push(Handle {
                 lines: Queue::of(rt, alloc, lines)?,
-                budget: budget.shared()?,
             })?;
         }
     }

@@ -6,6 +6,7 @@ ghost use Rattle.crossbeam_channel.specs.Ends.{sends_on};
 ghost use Rattle.trace_live.specs.Lines.{known};
 
 use crate::line::Line;
+use crate::planned::Planned;
 use crossbeam_channel::protocol::{Lesson, Outcome, Protocol};
 use crossbeam_channel::{Pass, RuledReceiver, RuledSender, bounded_with};
 use std::alloc::{AllocError, Global};
@@ -15,14 +16,14 @@ use std::sync::Wait;
 use usb_model::Sequence;
 
 /// What is known of a channel: which lines are in it. No value of it is made.
-pub(crate) struct Coming {
-    pub(crate) lines: LinkedList<Line>,
+pub(crate) struct Coming<Q: Planned> {
+    pub(crate) lines: LinkedList<Line<Q>>,
 }
 
 /// One thread knows them all, in order.
 pub(crate) struct InOrder;
 
-impl Protocol<Line, Coming> for InOrder {
+impl<Q: Planned> Protocol<Line<Q>, Coming<Q>> for InOrder {
     ghost use Rattle.std.specs.Prelude.{[]};
     ghost use Rattle.trace_live.specs.Lines.{InOrder, coming};
 
@@ -34,13 +35,13 @@ impl Protocol<Line, Coming> for InOrder {
 /// A line goes in, behind the others.
 struct Enters;
 
-impl Outcome<Line, Coming> for Enters {
+impl<Q: Planned> Outcome<Line<Q>, Coming<Q>> for Enters {
     ghost use Rattle.std.specs.Prelude.{◌≡◌, ◌++◌, ◌∷◌, []};
 
     ghost then = { λ v x w. w.lines ≡ v.lines ++ x ∷ [] };
 }
 
-impl Lesson<Line, Coming> for Enters {
+impl<Q: Planned> Lesson<Line<Q>, Coming<Q>> for Enters {
     ghost use Rattle.std.specs.Prelude.{⊤};
 
     ghost fact = { λ v items. ⊤ };
@@ -49,13 +50,13 @@ impl Lesson<Line, Coming> for Enters {
 /// The oldest comes out; where none does there is none.
 struct Leaves;
 
-impl Outcome<Line, Coming> for Leaves {
+impl<Q: Planned> Outcome<Line<Q>, Coming<Q>> for Leaves {
     ghost use Rattle.std.specs.Prelude.{◌≡◌, ◌∷◌};
 
     ghost then = { λ v x w. v.lines ≡ x ∷ w.lines };
 }
 
-impl Lesson<Line, Coming> for Leaves {
+impl<Q: Planned> Lesson<Line<Q>, Coming<Q>> for Leaves {
     ghost use Rattle.std.specs.Prelude.{◌≡◌};
 
     ghost fact = { λ v items. v.lines ≡ items };
@@ -63,19 +64,19 @@ impl Lesson<Line, Coming> for Leaves {
 
 /// Lines that wait for their thread. Contracts see them, the next first.
 #[derive(Drop)]
-pub(crate) struct Queue {
-    receiver: RuledReceiver<Line, Coming, InOrder>,
-    pass: Pass<Line, Coming>,
+pub(crate) struct Queue<Q: Planned> {
+    receiver: RuledReceiver<Line<Q>, Coming<Q>, InOrder>,
+    pass: Pass<Line<Q>, Coming<Q>>,
 }
 
-impl Model for Queue {
+impl<Q: Planned> Model for Queue<Q> {
     ghost use Rattle.std.specs.Prelude.{List};
     ghost use Rattle.crossbeam_channel.specs.Claims.{IsSeatAt};
     ghost use Rattle.crossbeam_channel.specs.Ends.{receives_on};
     ghost use Rattle.trace_live.specs.declared.line.Line.{Line};
     ghost use Rattle.trace_live.specs.Lines.{known};
 
-    ghost Value = { List Line };
+    ghost Value = { List (Line Q) };
 
     ghost view = { λ q. known q.pass };
 
@@ -83,11 +84,11 @@ impl Model for Queue {
 }
 
 /// Puts these lines into a channel, behind those that are in it. An error where its other end is gone.
-fn send_all<R: Wait>(
+fn send_all<Q: Planned, R: Wait>(
     rt: &R,
-    sender: &RuledSender<Line, Coming, InOrder>,
-    pass: &mut Pass<Line, Coming>,
-    lines: Vec<Line>,
+    sender: &RuledSender<Line<Q>, Coming<Q>, InOrder>,
+    pass: &mut Pass<Line<Q>, Coming<Q>>,
+    lines: Vec<Line<Q>>,
 ) -> Result<(), AllocError>
     requires channel { IsSeatAt (sends_on sender.now) pass.old }
     requires none { known pass.old ≡ [] }
@@ -102,17 +103,17 @@ fn send_all<R: Wait>(
     Ok(())
 }
 
-impl Queue {
+impl<Q: Planned> Queue<Q> {
     /// These lines, in order. An error where memory is refused.
     pub(crate) fn of<R: Wait>(
         rt: &R,
         alloc: Global,
-        lines: Sequence<Line>,
-    ) -> Result<Queue, AllocError>
+        lines: Sequence<Line<Q>>,
+    ) -> Result<Queue<Q>, AllocError>
         ensures { IfOk result (λ queue. queue ≡ lines) }
     {
         let room = lines.len().max(1);
-        let (sender, receiver, mut pass) = bounded_with::<Line, Coming, InOrder, Global>(
+        let (sender, receiver, mut pass) = bounded_with::<Line<Q>, Coming<Q>, InOrder, Global>(
             alloc, room,
         )?;
         send_all(rt, &sender, &mut pass, lines.into_vec())?;
@@ -120,7 +121,7 @@ impl Queue {
     }
 
     /// Takes out the next line, if one is left.
-    pub(crate) fn next<R: Wait>(&mut self, rt: &R) -> Option<Line>
+    pub(crate) fn next<R: Wait>(&mut self, rt: &R) -> Option<Line<Q>>
         ensures next { IfSome result (λ line. self.old ≡ line ∷ self.new) }
         ensures end { IfNone result (self.old ≡ []) }
     {

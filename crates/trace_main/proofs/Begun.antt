@@ -39,8 +39,8 @@ pub no_outcome : (text : List ℕ) (old : Option (List ℕ)) → BeginsOutcome t
 no_outcome text old = inl (keeps_same old)
 
 -- nothing is a beginning of what callbacks are told
-pub none_begun : (s : Scenario) (old : Option (List ℕ)) → AppendsSomeCallbacks s old old
-none_begun s old = inl (keeps_same old)
+pub none_begun : (s : Scenario) (rounds : ℕ) (old : Option (List ℕ)) → AppendsSomeCallbacks s rounds old old
+none_begun s rounds old = inl (keeps_same old)
 
 -- nothing is written
 pub nothing_of : (t : Task) (text : List ℕ) (old : Option (List ℕ)) → Begins t text old old

@@ -1,6 +1,7 @@
 pub mod Reports
 pub mod Begun
 mod JudgedRuns
+mod Living
 mod Unlived
 mod Sources
 mod Words

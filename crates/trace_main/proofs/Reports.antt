@@ -113,7 +113,7 @@ some_bad text (f ∷ fs) numbers some = λ none. let gone : f.line ∷ map (λ (
 
 -- a run in threads ends as it may
 pub lived : (text : List ℕ) (src : Source) (rounds : ℕ) (s : Scenario) (notes : List ℕ) (old new : Option (List ℕ)) (r : Result TaskEnd Fault) → src.given ≡ text → Stands src → lived_in src ≡ Ok s
-    → length text ≤ longest_input → OnOk r (AppendsCallbacks s notes old new) → IfOk r (λ ending. ending ≡ Good) → IfErr r (IsOfLive s rounds notes)
+    → length text ≤ longest_input → OnOk r (AppendsCallbacks s rounds notes old new) → IfOk r (λ ending. ending ≡ Good) → IfErr r (IsOfLive s rounds notes)
     → IfErr r (λ fault. fault ≡ Rounds rounds → Keeps old new) → Performs (Live rounds) text notes old new r
 lived text src rounds s notes old new (Ok Good) given stands read short lines good fault silent = (short, (src, given, stands, (s, read, lines)))
 lived text src rounds s notes old new (Ok BadLines) given stands read short lines good fault silent = cc

@@ -1,8 +1,9 @@
 -- What a scenario says that is run in threads, and what is written of it.
-use Rattle.std.specs.Prelude.{ℕ, ◌≡◌, ◌⊎◌, ◌+◌, ◌==◌, ◌<◌, length, min, Bool, true, false, List, [], ◌∷◌, Option, Some, None, Result, Ok, Err, if◌then◌else◌}
+use Rattle.std.specs.Prelude.{ℕ, ◌≡◌, ◌⊎◌, ◌+◌, ◌==◌, ◌<◌, ◌≤◌, length, min, Bool, true, false, List, [], ◌∷◌, Option, Some, None, Result, Ok, Err, if◌then◌else◌}
 use Rattle.std.specs.Io.KnownBytes.{Appends, Keeps}
 use Rattle.std.specs.List.{slice_split}
 use Rattle.usb_model.specs.declared.entry.Entry.{Entry}
+use Rattle.usb_model.specs.declared.plan.Plan.{Plan}
 use Rattle.usb_model.specs.declared.plan.Plan.TheVariants.{Do}
 use Rattle.usb_model.specs.declared.step.Step.{Step}
 use Rattle.usb_model.specs.declared.step.Step.TheVariants.{Expire, Unplug}
@@ -14,6 +15,7 @@ use Rattle.trace_scenario.specs.Line.{line_of_text}
 use Rattle.trace_live.specs.Callbacks.{AreCallbacks}
 use Rattle.trace_live.specs.Calls.{HasCalls}
 use Rattle.trace_live.specs.Unfinished.{unfinished_in}
+use Rattle.trace_live.specs.Verdicts.{AreToldSo, ruled}
 use Rattle.trace_run.specs.LeftText.{lines_left}
 use Rattle.usb_library.specs.Calls.{IsAtRest}
 use Rattle.trace_io.specs.Faults.{IsOfRun}
@@ -24,10 +26,15 @@ use Rattle.trace_scenario.specs.declared.scenario.Scenario.{Scenario}
 use Rattle.trace_scenario.specs.Scenario.{scenario_of}
 use Rattle.trace_main.specs.Source.{Source, text_in, told_by, told_number}
 
--- whether a line asks for what no handle's thread does: the end of a transfer's time, or of a device
+-- whether a piece of a plan asks for what no handle's thread does: the end of a transfer's time, or of a device
+abbrev pub is_unlived_piece : Plan → Bool
+is_unlived_piece (Do (Expire h n)) = true
+is_unlived_piece (Do (Unplug dev)) = true
+is_unlived_piece piece = false
+
+-- whether a line says such a piece
 abbrev pub is_unlived : Option Line → Bool
-is_unlived (Some (Piece (Do (Expire h n)))) = true
-is_unlived (Some (Piece (Do (Unplug dev)))) = true
+is_unlived (Some (Piece piece)) = is_unlived_piece piece
 is_unlived said = false
 
 -- the number of the first such line, where the lines are counted from this one on
@@ -53,23 +60,29 @@ lived_in src = told_by (told_number src) (lived_of (text_in src))
 abbrev pub unfinished_text : Scenario → List Step → List ℕ
 unfinished_text s steps = lines_left (unfinished_in s.setup steps)
 
--- what callbacks were told in a run of these steps over a scenario's devices, by handle and number: in it stand the calls of the scenario's lines, each handle's in their order, and no others; and where it ends, nothing is left to be done
-abbrev pub IsLived : Scenario → List Step → List Entry → Type 0
-IsLived s steps lines = HasCalls s.plan steps × AreCallbacks s.setup steps lines × IsAtRest s.setup (world_from s.setup (new_world s.setup) steps)
+-- what callbacks were told in a run of these steps over a scenario's devices, by handle and number: in it stand the calls of the scenario's lines, each handle's in their order, and no others; each verdict is told by the rule of one of the handle's submissions, or it is Stop, behind more callbacks than so many, or behind a resubmission that was refused; and where it ends, nothing is left to be done
+abbrev pub IsLived : Scenario → (rounds : ℕ) → List Step → List Entry → Type 0
+IsLived s rounds steps lines =
+    HasCalls s.plan steps × AreToldSo s.setup (ruled s.plan s.rules) rounds steps × AreCallbacks s.setup steps lines × IsAtRest s.setup (world_from s.setup (new_world s.setup) steps)
 
--- what is written of a scenario that was run in threads, and what is to be told behind it: what its callbacks were told in a run of its lines; and what wasn't finished where that run ends
-abbrev pub AppendsCallbacks : Scenario → (notes : List ℕ) → Option (List ℕ) → Option (List ℕ) → Type 0
-AppendsCallbacks s notes old new =
-    (steps : List Step) × (lines : List Entry) × IsLived s steps lines × (notes ≡ unfinished_text s steps) × Appends old new (lines_text lines)
+-- so it is, and no more than so many were told something
+abbrev pub IsLivedWithin : Scenario → (rounds : ℕ) → List Step → List Entry → Type 0
+IsLivedWithin s rounds steps lines = IsLived s rounds steps lines × (length lines ≤ rounds)
+
+-- what is written of a scenario that was run in threads with so many callbacks at most, and what is to be told behind it: what its callbacks were told in a run of its lines; and what wasn't finished where that run ends
+abbrev pub AppendsCallbacks : Scenario → (rounds : ℕ) → (notes : List ℕ) → Option (List ℕ) → Option (List ℕ) → Type 0
+AppendsCallbacks s rounds notes old new =
+    (steps : List Step) × (lines : List Entry) × IsLivedWithin s rounds steps lines × (notes ≡ unfinished_text s steps) × Appends old new (lines_text lines)
 
 -- nothing is written, or a beginning of that
-abbrev pub AppendsSomeCallbacks : Scenario → Option (List ℕ) → Option (List ℕ) → Type 0
-AppendsSomeCallbacks s old new = Keeps old new ⊎ ((steps : List Step) × (lines : List Entry) × IsLived s steps lines × AppendsSome (lines_text lines) old new)
+abbrev pub AppendsSomeCallbacks : Scenario → (rounds : ℕ) → Option (List ℕ) → Option (List ℕ) → Type 0
+AppendsSomeCallbacks s rounds old new =
+    Keeps old new ⊎ ((steps : List Step) × (lines : List Entry) × IsLivedWithin s rounds steps lines × AppendsSome (lines_text lines) old new)
 
 -- more than so many callbacks are told something, in a run of the scenario's lines; and this wasn't finished where it ends
 abbrev pub GoesOn : Scenario → ℕ → (notes : List ℕ) → Type 0
 GoesOn s rounds notes =
-    (steps : List Step) × (lines : List Entry) × IsLived s steps lines × (notes ≡ unfinished_text s steps) × (rounds < length lines)
+    (steps : List Step) × (lines : List Entry) × IsLived s rounds steps lines × (notes ≡ unfinished_text s steps) × (rounds < length lines)
 
 -- a fault of a run in threads with so many callbacks at most, and what is to be told behind it: of memory or of a stream, or there are more
 abbrev pub IsOfLive : Scenario → ℕ → (notes : List ℕ) → Fault → Type 0
@@ -77,6 +90,6 @@ IsOfLive s rounds notes (Rounds told) = (told ≡ rounds) × GoesOn s rounds not
 IsOfLive s rounds notes fault = IsOfRun fault
 
 -- what may have been written, however it ends: a beginning of that, and nothing where a line is bad
-abbrev pub BeginsCallbacks : Result Scenario ℕ → Option (List ℕ) → Option (List ℕ) → Type 0
-BeginsCallbacks (Ok s) old new = AppendsSomeCallbacks s old new
-BeginsCallbacks (Err line) old new = Keeps old new
+abbrev pub BeginsCallbacks : (rounds : ℕ) → Result Scenario ℕ → Option (List ℕ) → Option (List ℕ) → Type 0
+BeginsCallbacks rounds (Ok s) old new = AppendsSomeCallbacks s rounds old new
+BeginsCallbacks rounds (Err line) old new = Keeps old new

@@ -220,7 +220,7 @@ word_of task.Run = prints_judged (λ src. run_text)
 word_of task.Steps = prints_judged steps_text
 word_of (task.Packets steps) = prints (packets_text steps)
 word_of (task.Alone h) = prints (λ src. alone_text h)
-word_of (task.Live rounds) = of_scenario lived_in (λ src. AppendsCallbacks) (λ src old new. BeginsCallbacks (lived_in src) old new)
+word_of (task.Live rounds) = of_scenario lived_in (λ src s. AppendsCallbacks s rounds) (λ src old new. BeginsCallbacks rounds (lived_in src) old new)
 word_of task.Left = prints_judged (λ src. left_lines)
 word_of task.Check = record (prints check_text) { begun = BeginsOf (λ src old new. BeginsCheck src (scenario_in src) old new); bad_line = λ text line. ⊥ }
 word_of (task.Draw from to) = draws

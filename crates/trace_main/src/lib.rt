@@ -26,7 +26,8 @@
 //!   what was written is, byte for byte, the lines of its run, these with the number and the text of its step's line
 //!   before each (`run --steps`) or the packets that their steps moved below each (`run --packets`), those of one handle alone, what callbacks were told in a run of the definitions over
 //!   its devices, all of it, by handle and number (`live`: in that run stand the calls of the scenario's lines, each
-//!   handle's in their order, and no others, until nothing is left to be done), what is left behind (`left`), or, of a check, the counts, and the lines that the run refuses, with
+//!   handle's in their order, and no others, until nothing is left to be done, and each callback answers what the rule of one of its
+//!   handle's submissions says, or has ended, since its resubmission was refused), what is left behind (`left`), or, of a check, the counts, and the lines that the run refuses, with
 //!   the reasons; of `draw` no
 //!   contract says what is written; of `capture` it is the file of its run's events, those of the text's `device` lines
 //!   in front, each entry from its step's line (`capture_bytes`). Of `devices` the input is a capture of at most so

@@ -35,8 +35,8 @@ fn live_scenario<T: Threads + Wait + Sync, W: Write>(
 ) -> Result<TaskEnd, Fault>
     requires runnable { IsRunnable scenario }
     requires none { notes.old.items ≡ [] }
-    ensures lines { OnOk result (AppendsCallbacks scenario notes.new.items (W.contents out.old) (W.contents out.new)) }
-    ensures begun { AppendsSomeCallbacks scenario (W.contents out.old) (W.contents out.new) }
+    ensures lines { OnOk result (AppendsCallbacks scenario rounds notes.new.items (W.contents out.old) (W.contents out.new)) }
+    ensures begun { AppendsSomeCallbacks scenario rounds (W.contents out.old) (W.contents out.new) }
     ensures good { IfOk result (λ ending. ending ≡ TaskEnd.Good) }
     ensures fault { IfErr result (IsOfLive scenario rounds notes.new.items) }
     ensures alone { IfErr result (IsAlone notes.new.items) }

@@ -3,4 +3,4 @@ use Rattle.trace_live.specs.Lines.{said_by_each}
 use Rattle.trace_live.proofs.handles.no_lines.Given as goal
 
 abbrev pub invariant-loop : goal.invariant-loop
-invariant-loop l = said_by_each l.handles.items ≡ replicate l.counter []
+invariant-loop g l = said_by_each l.handles.items ≡ replicate l.counter []

@@ -16,5 +16,5 @@ returns-clause-begun g c =
       c.in_ok-source.field-0.source,
       c.in_ok-source.ensures.given,
       c.in_ok-source.ensures.stands,
-      subst (λ (r : Result Scenario ℕ). BeginsCallbacks r (g.W.Write.contents c.args.out.now) (g.W.Write.contents c.live_scenario.new.out)) (sym c.in_ok-lived.ensures.scenario) c.live_scenario.ensures.begun,
+      subst (λ (r : Result Scenario ℕ). BeginsCallbacks c.args.rounds r (g.W.Write.contents c.args.out.now) (g.W.Write.contents c.live_scenario.new.out)) (sym c.in_ok-lived.ensures.scenario) c.live_scenario.ensures.begun,
     )
