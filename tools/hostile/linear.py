@@ -14,7 +14,7 @@ from runs import CONFIG, Part, Tried
 GATE_LENGTHS, LENGTHS = (256, 1024), (8192, 32768)
 # What the longer text may take of the shorter one's time, where the square would be sixteen times, and what a word may take of that of `run`.
 MOST_GROWTH, MOST_OF_RUN = 10.0, 3.0
-# `live` goes over its text twice, and makes threads that wait for each other.
+# `live` makes threads, and takes the library's lock and looks at what is pending for each step of theirs.
 MOST_OF_RUN_OF = {"live": 4.0}
 # How many runs there are of each, and how many times the seconds of a run they may take; the least that is taken for work, in seconds.
 TIMES, SLOW, LEAST = 5, 10, 0.01
