@@ -1,5 +1,5 @@
 -- What `trace` promises, of an input whose bytes are known.
-use Rattle.std.proofs.Common.{◌≡◌, ◌⊎◌, ℕ, Bool, true, false, List, [], Option, Some, None, IfSome, inl, inr, refl, subst, sym, ◌∙◌}
+use Rattle.std.proofs.Common.{◌≡◌, ◌≤◌, ◌⊎◌, ℕ, Bool, true, false, List, [], Option, Some, None, IfSome, inl, inr, refl, subst, sym, ◌∙◌, arith}
 use Rattle.std.specs.Io.KnownBytes.{Keeps}
 use Rattle.clap.specs.Walk.{Text}
 use Rattle.trace_io.specs.CommandLine.{AreBad, AskFor, AskForHelp}
@@ -16,6 +16,7 @@ use Rattle.trace_main.proofs.Begun.{keeps_same, nothing_of, told_front}
 use Rattle.trace_command.specs.Layer.{Traces, TracesInput, is_half, may_name_files}
 
 pub of_trace : (words : List Text) (input : Option (List ℕ)) (old new err_old err_new : Option (List ℕ)) (status : ℕ) {P Q : Type 0}
+    → status ≤ 3
     → (status ≡ 3 → (t : Task) × AskFor words t × IfSome input (λ text. FindsUnexpected t text old new))
     → (status ≡ 0 → ((t : Task) × AskFor words t × IfSome input (λ text. TellsRest t text old new err_old err_new)) ⊎ (AskForHelp words × P))
     → (status ≡ 0 → AskForThreads words ⊎ Keeps err_old err_new)
@@ -25,8 +26,9 @@ pub of_trace : (words : List Text) (input : Option (List ℕ)) (old new err_old 
     → ((t : Task) → AskFor words t → IfSome input (λ text. Begins t text old new))
     → (status ≡ 1 → TellsWhy words input old new err_old err_new)
     → TracesInput words input old new err_old err_new status
-of_trace words None old new err_old err_new status unexpected done quiet refused silent bad unfinished told = λ half. tt
-of_trace words (Some text) old new err_old err_new status unexpected done quiet refused silent bad unfinished told = λ half named. record {
+of_trace words None old new err_old err_new status within unexpected done quiet refused silent bad unfinished told = λ half. tt
+of_trace words (Some text) old new err_old err_new status within unexpected done quiet refused silent bad unfinished told = λ half named. record {
+  within = within;
   unexpected = unexpected;
   done = λ zero. by_words (done zero);
   quiet = quiet;
@@ -45,6 +47,7 @@ of_trace words (Some text) old new err_old err_new status unexpected done quiet 
 pub ends_early : (words : List Text) (text : List ℕ) (old err_old err_new : Option (List ℕ)) (fault : Fault) (status : ℕ)
     → status ≡ 1 → MayEnd words (Some text) [] fault → IsAlone [] fault → AppendsSome (message_of fault) err_old err_new → Traces words text old old err_old err_new status
 ends_early words text old err_old err_new fault status one may alone told = record {
+  within = omega (arith, one);
   unexpected = λ three. absurd (not_three status one three);
   done = λ zero. absurd (not_zero status one zero);
   quiet = λ zero. absurd (not_zero status one zero);

@@ -1,5 +1,5 @@
 -- What the program does with words that name no file, and with a test of one.
-use Rattle.std.specs.Prelude.{◌≡◌, ◌⊎◌, ◌||◌, ◌==◌, ◌+◌, ℕ, nat_lt, Bool, true, false, List, [], Option, Some, None, IfSome, Result, Ok, Err}
+use Rattle.std.specs.Prelude.{◌≡◌, ◌≤◌, ◌⊎◌, ◌||◌, ◌==◌, ◌+◌, ℕ, nat_lt, Bool, true, false, List, [], Option, Some, None, IfSome, Result, Ok, Err}
 use Rattle.std.specs.Io.KnownBytes.{Keeps}
 use Rattle.std.specs.List.{list_any}
 use Rattle.clap.specs.Walk.{Text}
@@ -25,8 +25,9 @@ is_half t = false
 abbrev pub may_name_files : List ℕ → Bool
 may_name_files text = list_any (λ b. b == 64) text
 
--- what comes of these words over this input, by what stood on the streams before and stands there behind, and the status: what is promised of `trace`, clause by clause
+-- what comes of these words over this input, by what stood on the streams before and stands there behind, and the status: what is promised of `trace`, clause by clause, but for what it says of an input that isn't read
 pub record Traces (words : List Text) (text : List ℕ) (old new err_old err_new : Option (List ℕ)) (status : ℕ) : Type 0 where
+  pub within : status ≤ 3
   pub unexpected : status ≡ 3 → (t : Task) × AskFor words t × FindsUnexpected t text old new
   pub done : status ≡ 0 → ((t : Task) × AskFor words t × TellsRest t text old new err_old err_new) ⊎ AskForHelp words
   pub quiet : status ≡ 0 → AskForThreads words ⊎ Keeps err_old err_new
@@ -40,6 +41,10 @@ pub record Traces (words : List Text) (text : List ℕ) (old new err_old err_new
 abbrev pub TracesInput : List Text → Option (List ℕ) → (old new err_old err_new : Option (List ℕ)) → ℕ → Type 0
 TracesInput words input old new err_old err_new status =
     ((t : Task) → AskFor words t → is_half t ≡ false) → IfSome input (λ text. may_name_files text ≡ false → Traces words text old new err_old err_new status)
+
+-- the words ask for a task, or the input stays as it is: neither help nor a fault of the words has it read
+abbrev pub LeavesInput : {I : Type 0} → List Text → (old new : I) → Type 0
+LeavesInput words old new = ((t : Task) × AskFor words t) ⊎ (new ≡ old)
 
 -- how a test ends that isn't in a file by name: as `trace` says of it, and by its status; or the status is 1, since memory was refused behind it
 abbrev pub EndsTest : List ℕ → Option (List ℕ) → Option (List ℕ) → ℕ → Type 0

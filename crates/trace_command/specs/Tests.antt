@@ -1,5 +1,5 @@
 -- How tests of files are counted.
-use Rattle.std.specs.Prelude.{◌≡◌, ◌⊎◌, ◌+◌, ◌-◌, ◌^◌, min, ℕ, Bool, true, false, List, [], ◌∷◌}
+use Rattle.std.specs.Prelude.{◌≡◌, ◌≢◌, ◌⊎◌, ◌+◌, ◌-◌, ◌^◌, min, ℕ, Bool, true, false, List, [], ◌∷◌}
 use Rattle.trace_io.specs.declared.fault.Fault.{Fault}
 use Rattle.trace_test.specs.Tests.{IsOfTest, IsOutcome}
 use Rattle.trace_test.specs.declared.difference.TestOutcome.{TestOutcome}
@@ -40,14 +40,29 @@ pub data CountsFile (old new : Counting) : Type 0 where
   read : (text : List ℕ) → CountsTest text old new → CountsFile old new
   unread : new ≡ with_one false old → CountsFile old new
 
--- some files were, one behind the other: each led to the next of these
-unfoldable pub CountsTo : Counting → List Counting → Counting → Type 0
-CountsTo old [] new = new ≡ old
-CountsTo old (t ∷ ts) new = CountsFile old t × CountsTo t ts new
+-- for each of these, one behind the other, this was counted: each leads to the next
+unfoldable pub CountsEach : {P : Type 0} → (Counting → Counting → Type 0) → List P → Counting → Counting → Type 0
+CountsEach counts [] old new = new ≡ old
+CountsEach counts (p ∷ ps) old new = (between : Counting) × counts old between × CountsEach counts ps between new
 
-abbrev pub CountsFiles : Counting → Counting → Type 0
-CountsFiles old new = (ts : List Counting) × CountsTo old ts new
+-- each of these files was tested
+abbrev pub CountsFiles : {P : Type 0} → List P → Counting → Counting → Type 0
+CountsFiles files old new = CountsEach CountsFile files old new
 
--- the status of such tests is that of their tally; or 1, where what came of them couldn't be told or written
-abbrev pub IsStatusOf : Counting → ℕ → Type 0
-IsStatusOf old status = (new : Counting) × CountsFiles old new × ((status ≡ tests_status new.tally.failed) ⊎ (status ≡ 1))
+-- the files that were found in a folder were, of which there is one at least; or it couldn't be listed or has none, and counts as failed
+pub data CountsFolder (old new : Counting) : Type 0 where
+  found : (files : List (List ℕ)) → files ≢ [] → CountsFiles files old new → CountsFolder old new
+  unfound : new ≡ with_one false old → CountsFolder old new
+
+-- what a path names was: a file, or a folder
+pub data CountsPath (old new : Counting) : Type 0 where
+  file : CountsFile old new → CountsPath old new
+  folder : CountsFolder old new → CountsPath old new
+
+-- each of these paths was
+abbrev pub CountsPaths : {P : Type 0} → List P → Counting → Counting → Type 0
+CountsPaths paths old new = CountsEach CountsPath paths old new
+
+-- the status of the tests of these paths is that of their tally; or it is 1, where what came of them couldn't be told or written
+abbrev pub IsStatusOf : {P : Type 0} → List P → Counting → ℕ → Type 0
+IsStatusOf paths old status = ((new : Counting) × CountsPaths paths old new × (status ≡ tests_status new.tally.failed)) ⊎ (status ≡ 1)

@@ -22,12 +22,15 @@
 //! # Contracts
 //!
 //! - `perform`: words without files and options (`IsPlain`, specs/CommandLine) come to what is promised of `trace` of `trace_main`, clause by
-//!   clause (`Traces`, specs/Layer), where the input's bytes are known, it names no file, and more is told of no task (`is_half`)
+//!   clause (`Traces`, specs/Layer), where the input's bytes are known, it names no file, and more is told of no task (`is_half`). Any input that
+//!   they don't ask a task for isn't read (`LeavesInput`): help and bad words ask for none
 //! - within `trace_command`, `test_input`: a test that isn't in a file ends as `trace` says of it, by its status (`EndsTest`); `run_tests`: each
-//!   test of a file is counted by what came of it, or as failed where the file isn't read (`CountsFiles`, specs/Tests), and the status is that of
-//!   the tally, or 1 (`IsStatusOf`); the statuses (`half_status`, `lenient_status`, `tests_status`)
+//!   path has its tests, one path behind the other (`CountsPaths`, specs/Tests): a file one, counted by what came of it, or as failed where the
+//!   file isn't read (`CountsFile`), and a folder one at least, or it counts as failed (`CountsFolder`); the status is that of the tally, or 1
+//!   (`IsStatusOf`); the statuses (`half_status`, `lenient_status`, `tests_status`)
 //!
-//! Of a line with options, or with files, no contract says what is printed.
+//! Of a line with options, or with files, no contract says what is printed; nor that a file's test has the file's own bytes, or that a folder's
+//! has all its files, since contracts know no file's bytes and no folder's files: tools/scenarios.py tries both.
 #![tactic(auto)]
 
 mod bad_line;

@@ -4,7 +4,7 @@ ghost use Rattle.std.specs.Prelude.{◌≡◌, false, true, IfErr, IfOk, IfSome}
 ghost use Rattle.trace_io.specs.CommandLine.{AskFor};
 ghost use Rattle.trace_io.specs.declared.fault.Fault.TheVariants.{Memory};
 ghost use Rattle.usb_scripttext.specs.Words.{words_of};
-ghost use Rattle.trace_command.specs.Layer.{TracesInput};
+ghost use Rattle.trace_command.specs.Layer.{LeavesInput, TracesInput};
 ghost use Rattle.trace_command.specs.CommandLine.{IsInLines, IsPlain, is_version};
 ghost use Rattle.trace_command.specs.declared.printed.PrintedForm.TheVariants.{Lines};
 
@@ -72,7 +72,8 @@ fn run_words<T: Threads + Wait + Sync + Files, R: Read, W: Write, E: Write>(
     out: &mut W,
     err: &mut E,
 ) -> u8
-    ensures { TracesInput (words_of words.now) (R.remaining input.old) (W.contents out.old) (W.contents out.new) (E.contents err.old) (E.contents err.new) result }
+    ensures traced { TracesInput (words_of words.now) (R.remaining input.old) (W.contents out.old) (W.contents out.new) (E.contents err.old) (E.contents err.new) result }
+    ensures unread { LeavesInput (words_of words.now) input.old input.new }
 {
     match task_of(alloc, words) {
         Ok(Some(task)) => perform_over(rt, alloc, words, &task, folder, input, out, err),
@@ -91,8 +92,9 @@ fn run_input<T: Threads + Wait + Sync + Files, R: Read, W: Write, E: Write>(
     out: &mut W,
     err: &mut E,
 ) -> u8
-    ensures { line.now.is_lenient ≡ false
+    ensures traced { line.now.is_lenient ≡ false
         → TracesInput (words_of line.now.words.items) (R.remaining input.old) (W.contents out.old) (W.contents out.new) (E.contents err.old) (E.contents err.new) result }
+    ensures unread { LeavesInput (words_of line.now.words.items) input.old input.new }
 {
     let status = run_words(rt, alloc, line.words.as_slice(), folder, input, out, err);
     status_of(status, line.is_lenient)
@@ -269,8 +271,9 @@ fn perform_words<
     W: Write,
     E: Write,
 >(rt: &T, alloc: Global, line: &CommandLine<'_>, input: &mut R, out: &mut W, err: &mut E) -> u8
-    ensures { IsPlain line.now
+    ensures traced { IsPlain line.now
         → TracesInput (words_of line.now.words.items) (R.remaining input.old) (W.contents out.old) (W.contents out.new) (E.contents err.old) (E.contents err.new) result }
+    ensures unread { IsPlain line.now → LeavesInput (words_of line.now.words.items) input.old input.new }
 {
     if are_words_alone(line) {
         return run_input(rt, alloc, line, None, input, out, err);
@@ -348,8 +351,9 @@ pub fn perform<
     W: Write,
     E: Write,
 >(rt: &T, alloc: Global, line: &CommandLine<'_>, input: &mut R, out: &mut W, err: &mut E) -> u8
-    ensures { IsPlain line.now
+    ensures traced { IsPlain line.now
         → TracesInput (words_of line.now.words.items) (R.remaining input.old) (W.contents out.old) (W.contents out.new) (E.contents err.old) (E.contents err.new) result }
+    ensures unread { IsPlain line.now → LeavesInput (words_of line.now.words.items) input.old input.new }
 {
     if line.colours == ColourOption::Bad {
         return refuse_colours(err);

@@ -2,7 +2,7 @@
 
 ghost use Rattle.std.specs.Prelude.{◌≡◌, false, IfOk, OnOk};
 ghost use Rattle.trace_command.specs.Status.{tests_status};
-ghost use Rattle.trace_command.specs.Tests.{CountsFile, CountsFiles, CountsTest, IsStatusOf, counted, no_tests, passes, with_one};
+ghost use Rattle.trace_command.specs.Tests.{CountsFile, CountsFiles, CountsFolder, CountsPath, CountsPaths, CountsTest, IsStatusOf, counted, no_tests, passes, with_one};
 
 use crate::bad_line::first_bad_line;
 use crate::expecting::expects_nothing;
@@ -244,13 +244,27 @@ impl<W: Write, E: Write> Testing<'_, '_, W, E> {
         }
     }
 
+    /// Tests files, one behind the other.
+    fn test_files<R: Threads + Wait + Sync + Files>(
+        &mut self,
+        rt: &R,
+        files: &[String],
+    ) -> io::Result<()>
+        ensures { OnOk result (self.old.counting.is_update ≡ false → CountsFiles files.now self.old.counting self.new.counting) }
+    {
+        for file in files {
+            self.test_file(rt, file.as_str())?;
+        }
+        Ok(())
+    }
+
     /// Tests the files of a folder.
     fn test_folder<R: Threads + Wait + Sync + Files + Alloc + Clone + Drop>(
         &mut self,
         rt: &R,
         folder: &str,
     ) -> io::Result<()>
-        ensures { OnOk result (self.old.counting.is_update ≡ false → CountsFiles self.old.counting self.new.counting) }
+        ensures { OnOk result (self.old.counting.is_update ≡ false → CountsFolder self.old.counting self.new.counting) }
     {
         let Ok(files) = tests_in(rt, self.alloc, folder) else {
             return self.refuse(folder, " ", "can't be read");
@@ -258,10 +272,7 @@ impl<W: Write, E: Write> Testing<'_, '_, W, E> {
         if files.is_empty() {
             return self.refuse(folder, " ", "has no file whose name ends in .txt");
         }
-        for file in files.iter() {
-            self.test_file(rt, file.as_str())?;
-        }
-        Ok(())
+        self.test_files(rt, files.as_slice())
     }
 
     /// Tests a file, or the files of a folder.
@@ -270,7 +281,7 @@ impl<W: Write, E: Write> Testing<'_, '_, W, E> {
         rt: &R,
         path: &str,
     ) -> io::Result<()>
-        ensures { OnOk result (self.old.counting.is_update ≡ false → CountsFiles self.old.counting self.new.counting) }
+        ensures { OnOk result (self.old.counting.is_update ≡ false → CountsPath self.old.counting self.new.counting) }
     {
         if is_folder(rt, path) {
             return self.test_folder(rt, path);
@@ -284,7 +295,7 @@ impl<W: Write, E: Write> Testing<'_, '_, W, E> {
         rt: &R,
         files: &[&str],
     ) -> io::Result<()>
-        ensures { OnOk result (self.old.counting.is_update ≡ false → CountsFiles self.old.counting self.new.counting) }
+        ensures { OnOk result (self.old.counting.is_update ≡ false → CountsPaths files.now self.old.counting self.new.counting) }
     {
         for file in files {
             self.test_path(rt, file)?;
@@ -316,7 +327,7 @@ impl<W: Write, E: Write> Testing<'_, '_, W, E> {
         files: &[&str],
         junit: Option<&str>,
     ) -> io::Result<u8>
-        ensures { IfOk result (λ status. self.old.counting.is_update ≡ false → IsStatusOf self.old.counting status) }
+        ensures { IfOk result (λ status. self.old.counting.is_update ≡ false → IsStatusOf files.now self.old.counting status) }
     {
         self.test_all(rt, files)?;
         if let Some(file) = junit {
@@ -339,7 +350,7 @@ pub fn run_tests<T: Threads + Wait + Sync + Files + Alloc + Clone + Drop, W: Wri
     out: &mut W,
     err: &mut E,
 ) -> u8
-    ensures { line.now.is_update ≡ false → IsStatusOf (record { is_lenient = line.now.is_lenient; is_update = false; tally = no_tests }) result }
+    ensures { line.now.is_update ≡ false → IsStatusOf line.now.files.items (record { is_lenient = line.now.is_lenient; is_update = false; tally = no_tests }) result }
 {
     let cases = match junit {
         Some(_) => Some(TestCases::new(alloc)),

@@ -1,20 +1,22 @@
--- One file more at each turn.
+-- The files that were found, or none.
+use Rattle.std.proofs.Common.{◌≡◌, ◌∙◌, ◌==◌, false, List, length, ap, subst, sym}
+use Rattle.std.specs.Prelude.{string_bytes}
+use Rattle.trace_command.specs.Tests.{CountsFiles}
 use Rattle.trace_command.specs.Tests as T
-use Rattle.trace_command.proofs.Counting.{a_file_more, further, none_yet, one_file}
+use Rattle.trace_command.proofs.Counting.{further, of_folder}
 use Rattle.trace_command.proofs.testing.Testing.test_folder.Goals as goal
 
-pub loop-file-init : goal.loop-file-init
-loop-file-init g c = λ none. (none_yet c.args.self.now.counting, none)
-
-pub loop-file-preserved : goal.loop-file-preserved
-loop-file-preserved g c = a_file_more c.args.self.now.counting c.loop-file.self.counting c.test_file.new.self.counting c.loop-file.invariant c.in_ok-test_file.ensures
-
 pub returns : goal.returns
-returns g c = λ none. (c.loop-file.invariant none).0
+returns g c =
+    let same : length c.in-Ok.files.items ≡ c.in-Ok.files.len = cc in
+    let some : (length c.in-Ok.files.items == 0) ≡ false = ap (λ n. n == 0) same ∙ sym c.is_empty.ensures ∙ c.if-is_empty.false in
+    further c.test_files.result
+    (λ counted none. of_folder string_bytes c.in-Ok.files.items c.args.self.now.counting c.test_files.new.self.counting some
+    (subst (λ (files : List _). CountsFiles files c.args.self.now.counting c.test_files.new.self.counting) c.as_slice.ensures.value (counted none)))
+    c.test_files.ensures
 
 pub returns-in_default : goal.returns-in_default
-returns-in_default g c = further c.refuse.result (λ is none. one_file c.args.self.now.counting c.refuse.new.self.counting (T.CountsFile.unread is)) c.refuse.ensures
+returns-in_default g c = further c.refuse.result (λ is none. T.CountsFolder.unfound is) c.refuse.ensures
 
 pub returns-then-is_empty : goal.returns-then-is_empty
-returns-then-is_empty g c =
-    further c.refuse-then-is_empty.result (λ is none. one_file c.args.self.now.counting c.refuse-then-is_empty.new.self.counting (T.CountsFile.unread is)) c.refuse-then-is_empty.ensures
+returns-then-is_empty g c = further c.refuse-then-is_empty.result (λ is none. T.CountsFolder.unfound is) c.refuse-then-is_empty.ensures

@@ -1,6 +1,10 @@
--- A file alone.
-use Rattle.trace_command.proofs.Counting.{further, one_file}
+-- A folder or a file.
+use Rattle.trace_command.specs.Tests as T
+use Rattle.trace_command.proofs.Counting.{further}
 use Rattle.trace_command.proofs.testing.Testing.test_path.Goals as goal
 
+pub returns-then-is_folder : goal.returns-then-is_folder
+returns-then-is_folder g c = further c.test_folder.result (λ counted none. T.CountsPath.folder (counted none)) c.test_folder.ensures
+
 pub returns : goal.returns
-returns g c = further c.test_file.result (λ counted none. one_file c.args.self.now.counting c.test_file.new.self.counting (counted none)) c.test_file.ensures
+returns g c = further c.test_file.result (λ counted none. T.CountsPath.file (counted none)) c.test_file.ensures
