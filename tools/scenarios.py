@@ -428,6 +428,9 @@ TOO_LONG = 33_554_433
 # Vendor 1209, product 000a, release 12.34, strings 1 to 3; and a configuration with endpoints 81 (IN) and 02 (OUT), packets of 8 bytes.
 DEVICE_DESCRIPTOR = bytes.fromhex("120100020000004009120a00341201020301")
 CONFIGURATION = bytes.fromhex("0902200001010080320904000002ff0000000705810208000007050202080000")
+TWO_INTERFACES = bytes.fromhex(
+    "0902300002010080320904000002ff00000007058102080000070502020800000904010001ff0000000705830308000a"
+)
 DESCRIBED = f"""# 1209:000a, USB 2.00, 1 configuration
 # configuration 1: 1 interface
 # interface 0: class ff (vendor specific)
@@ -475,6 +478,40 @@ def describing(path):
     yield ["device", str(path / "copy")], (0, DESCRIBED, "")
 
 
+# Handles whose submissions have rules of their own: transfers 0 and 1 of handle 1 once, and three times; that of handle 2 once. Transfer 1 is
+# submitted last, so its resubmissions have the numbers behind it, whatever the threads do.
+RULED = f"""\
+device 0 {TWO_INTERFACES.hex()}
+script 0 81 d:0a d:0b d:0c d:0d
+script 0 83 d:1a d:1b
+script 0 02 a a
+open 1 0
+claim 1 0
+submit 1 02 bulk x:07
+submit 1 81 bulk 1 then=again:COMPLETED:2
+open 2 0
+claim 2 1
+submit 2 83 int 1
+"""
+RULED_TOLD = """\
+h1 called 0 ep 02 round 0 COMPLETED 1 data -
+h1 called 1 ep 81 round 0 COMPLETED 1 data 0a
+h1 called 2 ep 81 round 1 COMPLETED 1 data 0b
+h1 called 3 ep 81 round 2 COMPLETED 1 data 0c
+h2 called 0 ep 83 round 0 COMPLETED 1 data 1a
+"""
+
+
+def living(path):
+    """A scenario in threads, each of whose callbacks answers by its own rule; and as many callbacks as `--rounds` allows, and one more."""
+    text = path / "ruled.txt"
+    text.write_text(RULED)
+    told = "usbtrace: more than 4 callbacks are called: --rounds sets how many may be\n"
+    yield ["live", str(text)], (0, RULED_TOLD, "")
+    yield ["live", "--rounds", "5", str(text)], (0, RULED_TOLD, "")
+    yield ["live", "--rounds", "4", str(text)], (1, "", told)
+
+
 def judged_input(path):
     """What is wrong with a scenario on standard input, of which the files are in the current folder; None where nothing is."""
     text = "device 0 @descriptors\nscript 0 81 d:@none/8 d:@four\nopen 1 0\nclaim 1 0\nsubmit 1 81 bulk 8\nserve 0 81\n"
@@ -500,6 +537,7 @@ def cases(folder):
     path = with_files(folder)
     yield from inserting(path)
     yield from describing(path)
+    yield from living(path)
     yield ["--version"], (0, "usbtrace 0.1.0\n", "")
     yield from objects_of_runs()
     yield from objects_of_checks()

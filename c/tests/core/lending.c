@@ -18,10 +18,13 @@ static void lend_in_vain(void)
     struct tirnouch_memory memory = filled_with_ee(data, sizeof data);
     say("lend for kind 9", lend(0x81, 9, &memory, 20));
     show("its memory", &memory, data);
+    show_bytes(data, sizeof data);
     tell_reply("lend for endpoint 82", lend(0x82, 2, &memory, 20));
     show("its memory", &memory, data);
+    show_bytes(data, sizeof data);
     say("lend for OUT", lend(0x02, 2, &memory, 20));
     show("its memory", &memory, data);
+    show_bytes(data, sizeof data);
 }
 
 /* While it is lent it is looked at here, which a program may not do. */
@@ -85,11 +88,25 @@ static void lend_in_turn(void)
     show_bytes(data, sizeof data);
 }
 
+/* An endpoint takes 16 transfers. The 17th is refused, and its memory is C's, as it was. */
+static void lend_too_many(void)
+{
+    static uint8_t data[17][8];
+    for (size_t i = 0; i < 16; i++) {
+        struct tirnouch_memory memory = filled_with_ee(data[i], sizeof data[i]);
+        if (lend(0x81, 2, &memory, 25 + i))
+            printf("lend %zu of 16 is refused\n", i + 1);
+    }
+    struct tirnouch_memory memory = filled_with_ee(data[16], sizeof data[16]);
+    tell_reply("lend a 17th", lend(0x81, 2, &memory, 41));
+    show("its memory", &memory, data[16]);
+    show_bytes(data[16], sizeof data[16]);
+}
+
 /* What is lent as the session ends is C's, and isn't freed. */
 void lending(void)
 {
     uint8_t data[8];
-    struct tirnouch_memory memory = filled_with_ee(data, sizeof data);
     say("create", create(meter));
     tell_reply("open 1 0", call(TIRNOUCH_OPEN, 1, 0, 0));
     tell_reply("claim 1 0", call(TIRNOUCH_CLAIM, 1, 0, 0));
@@ -98,7 +115,7 @@ void lending(void)
     lend_two();
     lend_and_cancel();
     lend_in_turn();
-    tell_reply("lend 8", lend(0x81, 2, &memory, 25));
+    lend_too_many();
     say("destroy", tirnouch_destroy(&slot));
-    say("lend to an empty slot", lend(0x81, 2, &(struct tirnouch_memory){ .at = data, .len = sizeof data }, 26));
+    say("lend to an empty slot", lend(0x81, 2, &(struct tirnouch_memory){ .at = data, .len = sizeof data }, 42));
 }
