@@ -53,6 +53,7 @@ SILENT: Dict[str, str] = {
     "usb_library::library::Library::wake_if": "a_read",
     "usb_library::library::Library::wake_row": "a_read",
     "usb_library::library::Library::stop_workers": "nothing_to_do",
+    "usb_library::library::Library::leave": "a_read_without_an_answer",
     "usb_workers::park::Parking::park": "a_read",
     "core::atomic::wake": "a_read",
 }

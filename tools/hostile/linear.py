@@ -14,8 +14,6 @@ from runs import CONFIG, Part, Tried
 GATE_LENGTHS, LENGTHS = (256, 1024), (8192, 32768)
 # What the longer text may take of the shorter one's time, where the square would be sixteen times, and what a word may take of that of `run`.
 MOST_GROWTH, MOST_OF_RUN = 10.0, 3.0
-# `live` makes threads, and takes the library's lock and looks at what is pending for each step of theirs.
-MOST_OF_RUN_OF = {"live": 4.0}
 # How many runs there are of each, and how many times the seconds of a run they may take; the least that is taken for work, in seconds.
 TIMES, SLOW, LEAST = 5, 10, 0.01
 BEGUN = f"device 0 {CONFIG}\n"
@@ -106,7 +104,7 @@ def told(name, word, taken, beside, start):
         return False, f"{word}: {name}: a run doesn't end well: {taken}, {beside}, {start}"
     growth, of_run = (taken[1] - start) / max(taken[0] - start, LEAST), taken[1] / beside[1]
     text = f"{word}: {name}: {growth:.1f} times the time for four times the text, and {of_run:.1f} times that of run"
-    return growth <= MOST_GROWTH and of_run <= MOST_OF_RUN_OF.get(word, MOST_OF_RUN), text
+    return growth <= MOST_GROWTH and of_run <= MOST_OF_RUN, text
 
 
 def tried(runs, name, word, lengths):

@@ -71,9 +71,9 @@ class Points:
         yield DECLARED
 
     def as_c(self) -> str:
-        """The names, for the program."""
+        """The names, for the program, and a null pointer behind them."""
         lines = "".join('    "' + it.replace("\\", "\\\\").replace('"', '\\"') + '",\n' for it in self.names)
-        return f"const char *const names_of_module[] = {{\n{lines}}};\n"
+        return f"const char *const names_of_module[] = {{\n{lines}    0,\n}};\n"
 
 
 def write_points(text: pathlib.Path, to: pathlib.Path, names: pathlib.Path) -> None:

@@ -6,6 +6,8 @@
 #include <errno.h>
 #include <linux/futex.h>
 #include <pthread.h>
+#include <stdio.h>
+#include <stdlib.h>
 #include <string.h>
 #include <sys/syscall.h>
 
@@ -19,7 +21,26 @@ static const char *name_of(site_number site)
     return site == WAIT ? "a wait" : site == WAKE ? "a wake" : names_of_module[site];
 }
 
-__attribute__((constructor)) static void begin(void) { name_of_site = name_of; }
+/* The functions that are looked for by their names. */
+static const char stop_workers[] = "usb_library::library::Library::stop_workers", call_back[] = "usb_workers::event::call_back",
+                  next_line[] = "trace_live::queue::Queue::next";
+
+static void want_in_module(const char *function)
+{
+    for (size_t i = 0; names_of_module[i]; i++)
+        if (!strcmp(names_of_module[i], function))
+            return;
+    fprintf(stderr, "the program has no function %s: see tools/interleavings/rattle.c\n", function);
+    exit(2);
+}
+
+__attribute__((constructor)) static void begin(void)
+{
+    name_of_site = name_of;
+    want_in_module(stop_workers);
+    want_in_module(call_back);
+    want_in_module(next_line);
+}
 
 /* What decides nothing about the loops: counts of references, what the kit's threads tell each other, a lock that is let go of, and a
  * handle's own channel, which no other thread touches any more. */
@@ -29,7 +50,7 @@ static bool is_passed_over(site_number site)
     for (size_t i = 0; i < sizeof names / sizeof *names; i++)
         if (!strncmp(names_of_module[site], names[i], strlen(names[i])))
             return true;
-    return !strcmp(names_of_module[running_function()], "trace_live::queue::Queue::next");
+    return !strcmp(names_of_module[running_function()], next_line);
 }
 
 static bool never(const void *word, const void *with)
@@ -47,9 +68,9 @@ void come_into(site_number function)
 {
     static bool were_all_waiting;
     enter(function);
-    if (!strcmp(names_of_module[function], "usb_library::library::Library::stop_workers"))
+    if (!strcmp(names_of_module[function], stop_workers))
         were_all_waiting = do_others_wait();
-    else if (were_all_waiting && !strcmp(names_of_module[function], "trace_live::counted::Counted::may_go_on"))
+    else if (were_all_waiting && !strcmp(names_of_module[function], call_back))
         fail("all threads waited, and a callback was still to be called");
 }
 

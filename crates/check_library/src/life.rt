@@ -20,7 +20,7 @@ use usb_model::Refused;
 const CALLERS: u32 = 1024;
 
 /// The library of a scene with one caller.
-type Shared<L> = Library<L, u64, TableDevice, Journal>;
+pub type Shared<L> = Library<L, u64, TableDevice, Journal>;
 
 /// What a scene leaves.
 #[derive(Drop)]

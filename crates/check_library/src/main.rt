@@ -10,6 +10,7 @@
 //! - `board.rt`: the library's calls, one a function, which give a value or a refusal
 //! - `call.rt`, `calls.rt`: a call as a value; the calls of the scenes with one caller
 //! - `single.rt`, `life.rt`: the one caller of a library; the library from its beginning to its end
+//! - `woken.rt`: which workers each call wakes
 //! - `gates.rt`, `bursts.rt`, `idle.rt`: scenes of threads
 //! - `scene.rt`, `acts.rt`: such a scene as data; what a thread does, act by act
 //! - `stage.rt`, `player.rt`: a scene is played; a thread that does its acts
@@ -41,6 +42,7 @@ mod signals;
 mod single;
 mod stage;
 mod turnstile;
+mod woken;
 
 use crate::call::Call;
 use crate::calls::{CALLS, FOUR_SIZES, ROWS, TWO_SIZES};
@@ -121,6 +123,7 @@ fn play_threads<K: Clock, R: Threads + Wait + Sync + Print>(
     alloc: Global,
     clock: &K,
 ) -> Result<()> {
+    woken::play_woken(rt, alloc)?;
     for scene in gates::SCENES {
         scene.play(rt, alloc)?;
     }

@@ -110,14 +110,20 @@ impl Waiting {
 ///
 /// A worker parks where one look showed nothing of its part. From then on its part has work only by a step for which it is
 /// named (`laws::wakes`, and what `Library::wake_if` requires), and who made that step unparks it afterwards: so it
-/// doesn't wait while there is work for it. It waits for the end too, which any step may bring: once the workers were
-/// asked to stop, each change wakes all.
+/// doesn't wait while there is work for it.
+///
+/// Once the workers were asked to stop, it waits for the end too: that there is nothing to do, and that no callback is out. The
+/// last packet, order, event or result was work of a worker's, who looks again behind it, whoever made its step; that worker then
+/// finds the end, and says so as it leaves, which wakes the other. The last callback is no worker's: where it ends, both are woken.
+/// Once one of them left, each change wakes the other.
 #[derive(Drop)]
 pub(crate) struct Watchers {
     /// Whether anybody waits, for whatever it may be.
     any: AtomicBool,
     stopping: AtomicBool,
     ending: AtomicBool,
+    /// Whether a worker left.
+    left: AtomicBool,
     all: Waiting,
     controllers: Waiting,
     events: Waiting,
@@ -130,6 +136,7 @@ impl Watchers {
             any: AtomicBool::new(false),
             stopping: AtomicBool::new(false),
             ending: AtomicBool::new(false),
+            left: AtomicBool::new(false),
             all: Waiting::new(alloc),
             controllers: Waiting::new(alloc),
             events: Waiting::new(alloc),
@@ -168,7 +175,7 @@ impl Watchers {
     #[inline(never)]
     fn wake_any<R: Wait>(&self, rt: &R, work: Work) {
         self.all.wake(rt);
-        if self.stopping.load(Ordering::SeqCst) {
+        if self.left.load(Ordering::SeqCst) {
             self.wake_workers(rt);
             return;
         }
@@ -176,6 +183,13 @@ impl Watchers {
             Work::None => {}
             Work::Of(part) => self.of(part).wake(rt),
             Work::Any => self.wake_workers(rt),
+        }
+    }
+
+    /// A callback ended, which may have been all that was left to do: those are woken who wait for the end.
+    pub(crate) fn wake_behind_callback<R: Wait>(&self, rt: &R) {
+        if self.stopping.load(Ordering::SeqCst) {
+            self.wake_workers(rt);
         }
     }
 
@@ -214,8 +228,8 @@ impl<L: Naming, P: Payload, D: Device, J: Recorder> Library<L, P, D, J> {
         self.watchers.add(rt, &self.watchers.all, unparker)
     }
 
-    /// The same for a worker, who is unparked only after a call that may have made work of its part, and after each
-    /// change since the workers were asked to stop.
+    /// The same for a worker, who is unparked only after a call that may have made work of its part; since the workers were asked
+    /// to stop also where a callback ends, and after each change since one of them left.
     pub fn watch_part<R: Wait>(
         &self,
         rt: &R,
@@ -233,6 +247,12 @@ impl<L: Naming, P: Payload, D: Device, J: Recorder> Library<L, P, D, J> {
     /// Asks the workers to end as soon as there is nothing to do.
     pub fn stop_workers<R: Wait>(&self, rt: &R) {
         self.watchers.stopping.store(true, Ordering::SeqCst);
+        self.watchers.wake(rt, Work::Any);
+    }
+
+    /// A worker leaves: where it waits for nothing more, the other is woken, and so it is after each change from now on.
+    pub fn leave<R: Wait>(&self, rt: &R) {
+        self.watchers.left.store(true, Ordering::SeqCst);
         self.watchers.wake(rt, Work::Any);
     }
 

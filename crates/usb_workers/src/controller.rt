@@ -100,6 +100,7 @@ pub fn controller_loop<L: Naming, P: Payload, D: Device, J: Recorder, G: Gate, R
     let mut past = library.past(rt, &mut caller);
     for _ in rt.forever() {
         let Some(pending) = library.work(rt, &mut caller, &mut past) else {
+            library.leave(rt);
             return caller;
         };
         turn(

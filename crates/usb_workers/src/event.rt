@@ -205,6 +205,7 @@ pub fn event_loop<L: Naming, C: Callback + Payload, D: Device, J: Recorder, G: G
     let mut taken = Vec::new(alloc);
     for _ in rt.forever() {
         let Some(events) = library.events(rt, &mut caller, &mut past) else {
+            library.leave(rt);
             return caller;
         };
         turn(
