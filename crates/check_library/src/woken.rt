@@ -37,8 +37,15 @@ const WORKING: [Named; 13] = [
     ("its callback submits it again", Call::Again(1)),
 ];
 
-/// Behind that: the end of a callback may be the end of all work.
-const STOPPING: [Named; 9] = [
+/// Behind that: whatever changes something may be the last that is done.
+const STOPPING: [Named; 3] = [
+    ("a packet isn't ready", Call::Serve(0x81)),
+    ("no event is handled", Call::Deliver),
+    ("another read is submitted", Call::Read(8, 0)),
+];
+
+/// By a worker, behind that: it looks again behind each.
+const LOOKING_AGAIN: [Named; 9] = [
     ("a packet isn't ready", Call::Serve(0x81)),
     ("the read is cancelled", Call::Ask(Ask::Cancel(2))),
     ("its endpoint stops", Call::Command),
@@ -47,14 +54,11 @@ const STOPPING: [Named; 9] = [
     ("the endpoint is moved", Call::Command),
     ("that is handled", Call::Deliver),
     ("its callback ends", Call::Stop(2)),
-    ("another read is submitted", Call::Read(8, 0)),
+    ("a packet isn't ready", Call::Serve(0x81)),
 ];
 
-/// Behind the leave of one: whatever changed something may be what the other waits for.
-const LEFT: [Named; 2] = [
-    ("a packet isn't ready", Call::Serve(0x81)),
-    ("no event is handled", Call::Deliver),
-];
+/// By the same caller, which is no worker's any more.
+const LEFT: [Named; 1] = [("a packet isn't ready", Call::Serve(0x81))];
 
 /// How often the workers of each part were woken.
 #[derive(Clone, Copy)]
@@ -120,8 +124,12 @@ impl<'a, R: Wait + Print, L: Naming> Watched<'a, R, L> {
         self.show("the workers are asked to stop", before)?;
         self.make_all(&STOPPING)?;
         let before = Wakes::of(self.library);
-        self.library.leave(self.rt);
-        self.show("one of them leaves", before)?;
+        self.library.enter(self.board.caller);
+        self.show("a worker begins", before)?;
+        self.make_all(&LOOKING_AGAIN)?;
+        let before = Wakes::of(self.library);
+        self.library.leave(self.rt, self.board.caller);
+        self.show("it leaves", before)?;
         self.make_all(&LEFT)
     }
 }
@@ -175,7 +183,7 @@ fn play_over<L: Naming, R: Wait + Print>(
 /// Plays the scene, and prints whom each call woke.
 pub fn play_woken<R: Wait + Print>(rt: &R, alloc: Global) -> Result<()> {
     println!(rt;
-        "who is woken: by each call, before the workers are asked to stop and behind that"
+        "who is woken: by each call, before the workers are asked to stop, behind that, and by a worker"
     )?;
     play_over::<Brand, R>(rt, alloc, opening(alloc, 1, &SIZES)?)
 }

@@ -7,11 +7,14 @@ use std::marker::Model;
 use usb_journal::{Naming, Position};
 
 /// Makes calls: each thread has one of its own. Contracts see its number, which no other has; the journal as it was after its last call
-/// or look; the places of its calls, in order; and how many of its calls have none. It has no bytes but its two numbers.
+/// or look; the places of its calls, in order; and how many of its calls have none. It has no bytes but its two numbers, and whether it is
+/// a worker's.
 #[derive(Drop)]
 pub struct Caller<L: Naming> {
     pub(crate) position: Position<L>,
     pub(crate) missed: u64,
+    /// Whether it is a worker's, who looks again behind each call (`Library::enter`).
+    pub(crate) looks_again: bool,
 }
 
 impl<L: Naming> Model for Caller<L> {

@@ -73,8 +73,8 @@
 //! - `Ended::to_places`, `Ended::into_setup`: copies of the very places that the recorder has; the devices, as
 //!   `Core::into_setup` hands them back
 //!
-//! What `watch`, `watch_part`, `stop_workers`, `end_workers` and `leave` do, and what `has_lacked_memory` and `cuts` tell, has no contract:
-//! what a lock keeps is known by its type alone, so nothing can be said of it behind the call. Nor is it a clause that a call comes to wake at
+//! What `watch`, `watch_part`, `stop_workers` and `end_workers` do, whom `enter` and `leave` wake or let sleep, and what
+//! `has_lacked_memory` and `cuts` tell, has no contract: what a lock keeps is known by its type alone, so nothing can be said of it behind the call. Nor is it a clause that a call comes to wake at
 //! all, and that this unparks whom the call names: scenes show it.
 //!
 //! A book under one lock (`Guarded`), called by many threads, each with a `Caller` of its own. Callbacks are handed out

@@ -111,6 +111,7 @@ impl<L: Naming, P: Payload, D: Device, J: Recorder> Library<L, P, D, J> {
         Ok(Caller {
             position,
             missed: 0,
+            looks_again: false,
         })
     }
 
@@ -175,7 +176,7 @@ impl<L: Naming, P: Payload, D: Device, J: Recorder> Library<L, P, D, J> {
         requires { WakesSince L.setup caller.now.seen receipt.now.place (if_changed changed work) }
     {
         if changed {
-            self.watchers.wake(rt, work);
+            self.watchers.wake(rt, work, caller.looks_again);
         }
     }
 }

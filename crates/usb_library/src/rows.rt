@@ -125,7 +125,7 @@ impl<L: Naming, P: Payload, D: Device, J: Recorder> Library<L, P, D, J> {
         requires { WakesSince L.setup caller.now.seen row.first work }
     {
         if row.count > 0 {
-            self.watchers.wake(rt, work);
+            self.watchers.wake(rt, work, caller.looks_again);
         }
     }
 }

@@ -91,9 +91,6 @@ impl<L: Naming, P: Payload, D: Device, J: Recorder> Library<L, P, D, J> {
         let answered = Answered { receipt, entry };
         let changed = answered.has_changed();
         self.wake_if(rt, caller, &answered.receipt, changed, Work::None);
-        if changed {
-            self.watchers.wake_behind_callback(rt);
-        }
         Ok(answered)
     }
 

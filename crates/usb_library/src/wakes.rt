@@ -110,20 +110,15 @@ impl Waiting {
 ///
 /// A worker parks where one look showed nothing of its part. From then on its part has work only by a step for which it is
 /// named (`laws::wakes`, and what `Library::wake_if` requires), and who made that step unparks it afterwards: so it
-/// doesn't wait while there is work for it.
-///
-/// Once the workers were asked to stop, it waits for the end too: that there is nothing to do, and that no callback is out. The
-/// last packet, order, event or result was work of a worker's, who looks again behind it, whoever made its step; that worker then
-/// finds the end, and says so as it leaves, which wakes the other. The last callback is no worker's: where it ends, both are woken.
-/// Once one of them left, each change wakes the other.
+/// doesn't wait while there is work for it. It waits for the end too, which any step may bring: once the workers were
+/// asked to stop, each change wakes both, but one that a worker made. That worker looks again behind it; and where it sees the
+/// end it leaves, which wakes the other (`Library::leave`).
 #[derive(Drop)]
 pub(crate) struct Watchers {
     /// Whether anybody waits, for whatever it may be.
     any: AtomicBool,
     stopping: AtomicBool,
     ending: AtomicBool,
-    /// Whether a worker left.
-    left: AtomicBool,
     all: Waiting,
     controllers: Waiting,
     events: Waiting,
@@ -136,7 +131,6 @@ impl Watchers {
             any: AtomicBool::new(false),
             stopping: AtomicBool::new(false),
             ending: AtomicBool::new(false),
-            left: AtomicBool::new(false),
             all: Waiting::new(alloc),
             controllers: Waiting::new(alloc),
             events: Waiting::new(alloc),
@@ -163,19 +157,20 @@ impl Watchers {
         Ok(())
     }
 
-    /// Those are woken who wait for what a step did. Where nobody waits for anything, that is all that is asked.
+    /// Those are woken who wait for what a step did, and for the end, if whoever made the step doesn't look for that. Where nobody
+    /// waits for anything, that is all that is asked.
     #[inline(always)]
-    pub(crate) fn wake<R: Wait>(&self, rt: &R, work: Work) {
+    pub(crate) fn wake<R: Wait>(&self, rt: &R, work: Work, looks_again: bool) {
         if self.any.load(Ordering::SeqCst) {
-            self.wake_any(rt, work);
+            self.wake_any(rt, work, looks_again);
         }
     }
 
     /// The same, where somebody waits.
     #[inline(never)]
-    fn wake_any<R: Wait>(&self, rt: &R, work: Work) {
+    fn wake_any<R: Wait>(&self, rt: &R, work: Work, looks_again: bool) {
         self.all.wake(rt);
-        if self.left.load(Ordering::SeqCst) {
+        if !looks_again && self.stopping.load(Ordering::SeqCst) {
             self.wake_workers(rt);
             return;
         }
@@ -183,13 +178,6 @@ impl Watchers {
             Work::None => {}
             Work::Of(part) => self.of(part).wake(rt),
             Work::Any => self.wake_workers(rt),
-        }
-    }
-
-    /// A callback ended, which may have been all that was left to do: those are woken who wait for the end.
-    pub(crate) fn wake_behind_callback<R: Wait>(&self, rt: &R) {
-        if self.stopping.load(Ordering::SeqCst) {
-            self.wake_workers(rt);
         }
     }
 
@@ -228,8 +216,8 @@ impl<L: Naming, P: Payload, D: Device, J: Recorder> Library<L, P, D, J> {
         self.watchers.add(rt, &self.watchers.all, unparker)
     }
 
-    /// The same for a worker, who is unparked only after a call that may have made work of its part; since the workers were asked
-    /// to stop also where a callback ends, and after each change since one of them left.
+    /// The same for a worker, who is unparked only after a call that may have made work of its part, and, since the workers were
+    /// asked to stop, after each change that no worker made, and when another leaves.
     pub fn watch_part<R: Wait>(
         &self,
         rt: &R,
@@ -247,13 +235,23 @@ impl<L: Naming, P: Payload, D: Device, J: Recorder> Library<L, P, D, J> {
     /// Asks the workers to end as soon as there is nothing to do.
     pub fn stop_workers<R: Wait>(&self, rt: &R) {
         self.watchers.stopping.store(true, Ordering::SeqCst);
-        self.watchers.wake(rt, Work::Any);
+        self.watchers.wake(rt, Work::Any, false);
     }
 
-    /// A worker leaves: where it waits for nothing more, the other is woken, and so it is after each change from now on.
-    pub fn leave<R: Wait>(&self, rt: &R) {
-        self.watchers.left.store(true, Ordering::SeqCst);
-        self.watchers.wake(rt, Work::Any);
+    /// From now on the caller is a worker's, who looks again behind each call, and leaves at last: so no call of its own wakes others
+    /// because it may have been the last.
+    pub fn enter(&self, caller: &mut Caller<L>)
+        ensures same { caller.new ≡ caller.old }
+    {
+        caller.looks_again = true;
+    }
+
+    /// The caller is no worker's any more. The others are woken: what that worker saw last may be the end that they wait for.
+    pub fn leave<R: Wait>(&self, rt: &R, caller: &mut Caller<L>)
+        ensures same { caller.new ≡ caller.old }
+    {
+        caller.looks_again = false;
+        self.watchers.wake(rt, Work::Any, false);
     }
 
     /// Whether the workers were asked to end, as soon as there is nothing to do, or nothing of their own part.

@@ -78,13 +78,8 @@ fn turn<L: Naming, P: Payload, D: Device, J: Recorder, G: Gate, R: Wait>(
     }
 }
 
-/// Does the controller's part (xHCI 1.2, 4.6 and 4.10) until the library is rested: a packet or an order only where
-/// `pending` showed one, each behind the gate; behind one pass packets go in a row. With nothing to do it parks. Where memory is refused it says so (`has_lacked_memory`) and
-/// tries again; but once it was asked to stop, and a hundred tries in a row were refused, it gives up, and asks the other worker to
-/// end too. The caller comes back, and only where what it saw last has neither a packet nor an order, or memory was refused to it a hundred
-/// times. Look by look it made what was there to be seen: packets in a row, then the order. What memory was refused to
-/// the caller has counted, and nothing else was made.
-pub fn controller_loop<L: Naming, P: Payload, D: Device, J: Recorder, G: Gate, R: Wait>(
+/// Turn by turn, until the worker leaves.
+fn work<L: Naming, P: Payload, D: Device, J: Recorder, G: Gate, R: Wait>(
     rt: &R,
     alloc: Global,
     library: &Library<L, P, D, J>,
@@ -100,7 +95,6 @@ pub fn controller_loop<L: Naming, P: Payload, D: Device, J: Recorder, G: Gate, R
     let mut past = library.past(rt, &mut caller);
     for _ in rt.forever() {
         let Some(pending) = library.work(rt, &mut caller, &mut past) else {
-            library.leave(rt);
             return caller;
         };
         turn(
@@ -118,4 +112,27 @@ pub fn controller_loop<L: Naming, P: Payload, D: Device, J: Recorder, G: Gate, R
         }
     }
     unreachable!()
+}
+
+/// Does the controller's part (xHCI 1.2, 4.6 and 4.10) until the library is rested: a packet or an order only where
+/// `pending` showed one, each behind the gate; behind one pass packets go in a row. With nothing to do it parks. Where memory is refused it says so (`has_lacked_memory`) and
+/// tries again; but once it was asked to stop, and a hundred tries in a row were refused, it gives up, and asks the other worker to
+/// end too. The caller comes back, and only where what it saw last has neither a packet nor an order, or memory was refused to it a hundred
+/// times. Look by look it made what was there to be seen: packets in a row, then the order. What memory was refused to
+/// the caller has counted, and nothing else was made.
+pub fn controller_loop<L: Naming, P: Payload, D: Device, J: Recorder, G: Gate, R: Wait>(
+    rt: &R,
+    alloc: Global,
+    library: &Library<L, P, D, J>,
+    gate: &mut G,
+    caller: Caller<L>,
+) -> Caller<L>
+    ensures rounds { Rounds (ShowsPending L.setup) (Controls L.setup) caller result }
+    ensures ended { HasEnded (LacksWork L.setup) result }
+{
+    let mut caller = caller;
+    library.enter(&mut caller);
+    let mut caller = work(rt, alloc, library, gate, caller);
+    library.leave(rt, &mut caller);
+    caller
 }

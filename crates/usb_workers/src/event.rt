@@ -177,6 +177,48 @@ fn turn<L: Naming, C: Callback + Payload, D: Device, J: Recorder, G: Gate, R: Wa
     }
 }
 
+/// Turn by turn, until the worker leaves.
+fn work<L: Naming, C: Callback + Payload, D: Device, J: Recorder, G: Gate, R: Wait>(
+    rt: &R,
+    alloc: Global,
+    library: &Library<L, C, D, J>,
+    gate: &mut G,
+    caller: Caller<L>,
+    rounds: u64,
+) -> Caller<L>
+    ensures rounds { Rounds (ShowsEvents L.setup) (Handles L.setup (MayAnswer rounds C.Whom.suits C.may_answer C.rule)) caller result }
+    ensures ended { HasEnded (LacksEvents L.setup) result }
+{
+    let mut caller = caller;
+    let mut tries = Tries::new();
+    let mut parking = Parking::new(rt, alloc, library, WorkerPart::Events);
+    let mut past = library.past(rt, &mut caller);
+    let mut limit = Limit::new(rounds);
+    let mut taken = Vec::new(alloc);
+    for _ in rt.forever() {
+        let Some(events) = library.events(rt, &mut caller, &mut past) else {
+            return caller;
+        };
+        turn(
+            rt,
+            library,
+            gate,
+            &mut caller,
+            &mut past,
+            &mut tries,
+            &mut parking,
+            &mut limit,
+            &events,
+            &mut taken,
+        );
+        if tries.are_over(library) {
+            library.end_workers(rt);
+            return caller;
+        }
+    }
+    unreachable!()
+}
+
 /// Handles events (libusb 1.0, `libusb_handle_events`), takes results out, calls their callbacks with no lock held and tells their
 /// verdicts, until the library is rested: a row of Delivers or of Takes only where a look showed one, each behind the gate.
 /// With nothing to do it parks. A callback that can't be submitted once more has ended, and is told so (`Callback::ended`). Where memory
@@ -198,32 +240,8 @@ pub fn event_loop<L: Naming, C: Callback + Payload, D: Device, J: Recorder, G: G
     ensures ended { HasEnded (LacksEvents L.setup) result }
 {
     let mut caller = caller;
-    let mut tries = Tries::new();
-    let mut parking = Parking::new(rt, alloc, library, WorkerPart::Events);
-    let mut past = library.past(rt, &mut caller);
-    let mut limit = Limit::new(rounds);
-    let mut taken = Vec::new(alloc);
-    for _ in rt.forever() {
-        let Some(events) = library.events(rt, &mut caller, &mut past) else {
-            library.leave(rt);
-            return caller;
-        };
-        turn(
-            rt,
-            library,
-            gate,
-            &mut caller,
-            &mut past,
-            &mut tries,
-            &mut parking,
-            &mut limit,
-            &events,
-            &mut taken,
-        );
-        if tries.are_over(library) {
-            library.end_workers(rt);
-            return caller;
-        }
-    }
-    unreachable!()
+    library.enter(&mut caller);
+    let mut caller = work(rt, alloc, library, gate, caller, rounds);
+    library.leave(rt, &mut caller);
+    caller
 }

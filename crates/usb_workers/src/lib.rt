@@ -48,8 +48,7 @@
 //! The library unparks it after a step that may have made work for that part, and no other: a submission is the
 //! controller's, a transfer that ended that of events, and an event is the controller's where it orders something or
 //! sets an endpoint going again. It ends where the workers were asked to stop and nothing is left, and wakes the other as it
-//! leaves. Where memory is
-//! refused it says so and tries again, until it gives up once it was asked to stop; a callback that can't be submitted once more has
+//! leaves. Where memory is refused it says so and tries again, until it gives up once it was asked to stop; a callback that can't be submitted once more has
 //! ended, and is told how.
 //!
 //! - `live`, `live_gated`: the entries of the journal that is handed out are the definitions' run of

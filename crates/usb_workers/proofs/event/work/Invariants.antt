@@ -1,7 +1,7 @@
 use Rattle.std.proofs.Common.{◌≡◌, ◌≤◌, []}
 use Rattle.usb_library.specs.Calls.{ShowsEvents}
 use Rattle.usb_workers.specs.Rounds.{AreCounted, Handles, MayAnswer, Rounds, called_in}
-use Rattle.usb_workers.proofs.event.event_loop.Given as goal
+use Rattle.usb_workers.proofs.event.work.Given as goal
 
 abbrev pub invariant-loop : goal.invariant-loop
 invariant-loop g l = record {

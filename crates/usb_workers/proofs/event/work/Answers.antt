@@ -2,7 +2,7 @@ use Rattle.std.proofs.Common.{ap, arith, inr, subst, ◌∙◌}
 use Rattle.usb_library.specs.Calls.{ShowsEvents}
 use Rattle.usb_workers.specs.Rounds.{called_in}
 use Rattle.usb_workers.specs.Rounds as R
-use Rattle.usb_workers.proofs.event.event_loop.Goals as goal
+use Rattle.usb_workers.proofs.event.work.Goals as goal
 
 pub loop-init : goal.loop-init
 loop-init g c = record { rounds = R.Rounds.none; called = omega (arith, c.new-limit.ensures.0); most = c.new-limit.ensures.1; counted = (omega (arith, c.new-tries.ensures), omega (arith, c.new-tries.ensures)); empty = c.new-taken.ensures.items }

@@ -1,6 +1,6 @@
 use Rattle.usb_library.specs.Calls.{ShowsPending}
 use Rattle.usb_workers.specs.Rounds.{AreCounted, Controls, Rounds}
-use Rattle.usb_workers.proofs.controller.controller_loop.Given as goal
+use Rattle.usb_workers.proofs.controller.work.Given as goal
 
 abbrev pub invariant-loop : goal.invariant-loop
 invariant-loop g l = record {
