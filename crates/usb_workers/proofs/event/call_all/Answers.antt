@@ -1,4 +1,4 @@
-use Rattle.std.proofs.Common.{ap, append_assoc, arith, length, map, subst, sym, ◌++◌, ◌∙◌, ◌∷◌, []}
+use Rattle.std.proofs.Common.{ap, append_assoc, arith, map, subst, sym, ◌++◌, ◌∙◌, ◌∷◌, []}
 use Rattle.std.proofs.lemmas.List.{length-append, map-append}
 use Rattle.usb_workers.specs.Rounds.{MayAnswer}
 use Rattle.usb_workers.proofs.Told.{tells_more}
