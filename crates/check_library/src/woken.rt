@@ -1,5 +1,7 @@
 //! A scene of one caller: which workers each of its calls wakes.
 
+ghost use Rattle.std.specs.Prelude.{◌≡◌};
+
 use crate::board::Board;
 use crate::call::{Ask, Call};
 use crate::life::{Shared, opening};
