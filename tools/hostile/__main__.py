@@ -12,7 +12,7 @@
     streams        every word: reads and writes that fail, are cut short or interrupted; streams that are closed, full or broken
     sizes          inputs, lines and runs as long as may be, and longer; and what is open and held at the end of a run
     descriptors    `check` and `run`: each beginning of a descriptor, and each byte set to each value
-    linear         every word over texts of two lengths: what it takes grows with the text, and is at most three times what `run` takes, of `live` four
+    linear         every word over texts of two lengths: what it takes grows with the text, and is at most three times what `run` takes
 
 What is wrong is printed, and the status is 1, but for what known.txt knows. Needs a C compiler.
 

@@ -16,6 +16,8 @@ GATE_LENGTHS, LENGTHS = (256, 1024), (8192, 32768)
 MOST_GROWTH, MOST_OF_RUN = 10.0, 3.0
 # How many runs there are of each, and how many times the seconds of a run they may take; the least that is taken for work, in seconds.
 TIMES, SLOW, LEAST = 5, 10, 0.01
+# How often that is done where it took too long: whatever else runs on the processors makes runs longer, and none shorter.
+TRIES = 3
 BEGUN = f"device 0 {CONFIG}\n"
 HELD = "open 1 0\nclaim 1 0\n"
 
@@ -98,21 +100,38 @@ def seconds_of(program, word, text, most):
     return min(taken)
 
 
-def told(name, word, taken, beside, start):
+def told(name, word, seconds):
     """What a word took of two texts, beside what `run` took of them and of none: whether it is as wanted, and in words."""
-    if None in (*taken, *beside, start):
+    taken, beside, start = seconds[:2], seconds[2:4], seconds[4]
+    if None in seconds:
         return False, f"{word}: {name}: a run doesn't end well: {taken}, {beside}, {start}"
     growth, of_run = (taken[1] - start) / max(taken[0] - start, LEAST), taken[1] / beside[1]
     text = f"{word}: {name}: {growth:.1f} times the time for four times the text, and {of_run:.1f} times that of run"
     return growth <= MOST_GROWTH and of_run <= MOST_OF_RUN, text
 
 
-def tried(runs, name, word, lengths):
+def least(one, other):
+    """The lesser seconds of each two; None where one of them is."""
+    return [None if None in pair else min(pair) for pair in zip(one, other)]
+
+
+def measured(runs, name, word, lengths):
+    """The least seconds of a word over the texts of both lengths, those of `run`, and those of `run` over nothing."""
     text_of, run_text_of = TESTS[name] if name in TESTS else (SCENARIOS[name], SCENARIOS[name])
     counted = functools.partial(seconds_of, runs.program, most=SLOW * runs.seconds)
     taken = [counted(word, text_of(it)) for it in lengths]
     beside = [counted("run", run_text_of(it)) for it in lengths]
-    is_right, text = told(name, word, taken, beside, counted("run", ""))
+    return [*taken, *beside, counted("run", "")]
+
+
+def tried(runs, name, word, lengths):
+    seconds = measured(runs, name, word, lengths)
+    is_right, text = told(name, word, seconds)
+    for _ in range(TRIES - 1):
+        if is_right:
+            break
+        seconds = least(seconds, measured(runs, name, word, lengths))
+        is_right, text = told(name, word, seconds)
     yield Tried("linear" if is_right else "wrong", text)
 
 
