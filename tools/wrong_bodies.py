@@ -9,9 +9,11 @@ must-fail/NAME.edit. A line `rule: NAME` in front names a rule of the model that
     tools/wrong_bodies.py turn --dry      names them, and tries none
     tools/wrong_bodies.py try [CRATE ..]  has the prover refuse each, in a copy of the repository beside it: half a minute
                                           each; and first proves the crates, where this machine's gate hasn't
+    tools/wrong_bodies.py together [CRATE ..]
+                                          the same over the libraries that `make test` left here, some in one check: a third of the time
 
 tools/wrong_bodies/goals.json has the goal by which each was refused when it was last looked at, as far as it is known. `turn` and `try` fail
-where that is another one now; with --keep behind their word they put what they saw into that file instead.
+where that is another one now, and so does `together`; with --keep behind their word they put what they saw into that file instead.
 """
 import os
 import pathlib
@@ -19,11 +21,12 @@ import shutil
 import subprocess
 import sys
 import tempfile
-from typing import List
+from typing import Callable, Iterable, List
 
 import edits
 import kit
 import prover
+import wrong_batches
 import wrong_turn
 from wrong_goals import Kept, goal_of
 
@@ -108,6 +111,12 @@ class Report:
             print(f"{len(self.kept.seen)} goals are kept, of which {self.kept.keep()} weren't known")
         return 1 if self.wrong else 0
 
+    def count(self) -> int:
+        """The end, with how many edits came to what."""
+        status = self.end()
+        print(f"{self.counts['refused']} of them refused, {self.counts['unknown']} not tried, {self.wrong} wrong")
+        return status
+
 
 def take_turn(is_dry: bool, seconds: float, keeps: bool) -> int:
     content, found = wrong_turn.content(), beside()
@@ -116,26 +125,35 @@ def take_turn(is_dry: bool, seconds: float, keeps: bool) -> int:
     if is_dry:
         print("".join(f"{wrong_turn.name_of(it)}\n" for it in chosen), end="")
         return 0
+    # (on a slow machine it may be that there is time for none)
+    report = Report(keeps)
+    return over_libraries({it.parent.name for it in chosen}, report, lambda: wrong_turn.try_turn(chosen, seconds, report.tell))
+
+
+def over_libraries(crates: Iterable[str], report: Report, tries: Callable[[], None]) -> int:
+    """Tries edits of these crates over the libraries that stand here, where there are all, and tells what came of them: the status."""
     try:
-        for crate in sorted({it.parent.name for it in chosen}):
+        for crate in sorted(crates):
             prover.check_words(crate)
     except prover.NotBuilt as why:
         print(f"none is tried: {why}")
         return 1
-    return told_turn(chosen, seconds, Report(keeps))
+    tries()
+    return report.count()
 
 
-def told_turn(chosen: List[pathlib.Path], seconds: float, report: Report) -> int:
-    """Tries these, and tells what came of them: the status. On a slow machine it may be that there is time for none."""
-    wrong_turn.try_turn(chosen, seconds, report.tell)
-    status = report.end()
-    print(f"{report.counts['refused']} of them refused, {report.counts['unknown']} not tried, {report.wrong} wrong")
-    return status
+def with_edits(crates: List[str]) -> List[str]:
+    """These crates; where none is named, all that have edits here."""
+    return crates or sorted(it.name for it in edits.BESIDE.iterdir() if it.is_dir())
+
+
+def try_together(crates: List[str], keeps: bool) -> int:
+    wanted, report = with_edits(crates), Report(keeps)
+    return over_libraries(wanted, report, lambda: wrong_batches.try_crates(wanted, report.tell))
 
 
 def try_all(crates: List[str], keeps: bool) -> int:
-    wanted = crates or sorted(it.name for it in edits.BESIDE.iterdir() if it.is_dir())
-    report = Report(keeps)
+    wanted, report = with_edits(crates), Report(keeps)
     with tempfile.TemporaryDirectory(prefix="wrong-bodies-") as room:
         copy = pathlib.Path(room) / "copy"
         leave = shutil.ignore_patterns(".git", "bin", "must-fail", *(["out"] if kit.proves_by_name() else []))
@@ -173,6 +191,8 @@ def main(words: List[str]) -> int:
         return take_turn("--dry" in words, wrong_turn.BUDGET if minutes is None else 60.0 * minutes, keeps)
     if words[:1] == ["try"]:
         return try_all(words[1:], keeps)
+    if words[:1] == ["together"]:
+        return try_together(words[1:], keeps)
     print(__doc__)
     return 2
 

@@ -10,6 +10,7 @@ from typing import Tuple
 
 sys.path.insert(0, str(pathlib.Path(__file__).resolve().parent))
 import edits
+import wrong_batches
 import wrong_bodies
 import wrong_goals
 import wrong_turn
@@ -23,6 +24,8 @@ impl Line {
     }
 }
 
+/// By itself.
+#[inline(never)]
 fn alone() -> u8 {
     4
 }
@@ -140,7 +143,8 @@ class Turns(Crates):
         try:
             with contextlib.redirect_stdout(io.StringIO()):
                 chosen = [pathlib.Path(f"low/edit_{at}.edit") for at in range(len(came))]
-                return wrong_bodies.told_turn(chosen, wrong_turn.BUDGET, wrong_bodies.Report(False))
+                report = wrong_bodies.Report(False)
+                return wrong_bodies.over_libraries([], report, lambda: wrong_turn.try_turn(chosen, wrong_turn.BUDGET, report.tell))
         finally:
             wrong_turn.try_turn = before
 
@@ -167,6 +171,66 @@ class Turns(Crates):
         self.assertEqual(judged(1, "src/line.rt:6:9: error: `x` is not in scope", "only=2 proved=1")[0], wrong_turn.BAD)
         self.assertEqual(judged(1, "error[unknown-name]: no `x` here")[0], wrong_turn.BAD)
         self.assertEqual(judged(2, "error: `--only Line::end` fits no function")[0], wrong_turn.UNKNOWN)
+
+
+class Batches(Crates):
+    """Several edits in one check."""
+
+    ALONE = EDIT.replace("        3", "    4").replace("        5", "    6")
+    SAID = ["fn low::line::Line::end: no proof: `search` did not prove `value`", "note: src/line.rt:5:5: it is not proved that it holds (`value`)",
+            "note: src/line.rt:11:1: it is not proved that it returns (`returns`)", "fn low::line::alone: not proved", "only=2 proved=0"]
+
+    def beside(self, name: str, text: str) -> pathlib.Path:
+        path = edits.BESIDE / "low" / f"{name}.edit"
+        path.write_text(text)
+        return path
+
+    def tried(self, status: int, *said: str) -> "tuple":
+        """What is told of two edits where a check of both ends so, and which of them are tried by themselves."""
+        told, alone, room = {}, [], self.root / "kept"
+        room.mkdir()
+        for name, text in (("end", EDIT), ("alone", self.ALONE)):
+            self.beside(name, text)
+        trial = wrong_batches.Trial(room, lambda name, it: told.update({name: it.goal}))
+        trial.checked = lambda crate, texts, paths: wrong_turn.Checked(list(said), status, 8.0)
+        trial.try_one = lambda edit: alone.append(edit.stem)
+        found = sorted((edits.BESIDE / "low").glob("*.edit"))
+        trial.try_batch(found, {it: wrong_batches.site_of(it) for it in found})
+        return told, alone
+
+    def test_an_edit_is_of_the_function_that_it_changes(self) -> None:
+        self.assertEqual(wrong_batches.site_of(self.beside("end", EDIT)), ("src/line.rt", 0, "end", "Line::end"))
+        self.assertEqual(wrong_batches.site_of(self.beside("alone", self.ALONE)), ("src/line.rt", 1, "alone", "line::alone"))
+        self.assertIsNone(wrong_batches.site_of(self.beside("both", EDIT + self.ALONE.partition("\n")[2])))
+        self.assertIsNone(wrong_batches.site_of(self.beside("type", EDIT.replace("        3", "struct Line;"))))
+
+    def test_no_two_of_a_batch_are_in_one_function(self) -> None:
+        sites = {pathlib.Path(f"{name}{at}"): wrong_batches.Site("src/line.rt", name, "", "") for name in range(3) for at in range(name + 2)}
+        for size in (1, 2, 9):
+            made = wrong_batches.batches(sites, size)
+            self.assertEqual(sorted(it for batch in made for it in batch), sorted(sites))
+            for batch in made:
+                self.assertEqual(len({sites[it] for it in batch}), len(batch))
+        self.assertEqual(wrong_batches.batches({}, 7), [])
+
+    def test_each_edit_of_a_check_has_its_own_goal(self) -> None:
+        told, alone = self.tried(1, *self.SAID)
+        self.assertEqual(told, {"low/end": "src/line.rt: it is not proved that it holds (`value`)",
+                                "low/alone": "src/line.rt: it is not proved that it returns (`returns`)"})
+        self.assertEqual(alone, [])
+
+    def test_an_edit_of_which_a_check_says_nothing_is_tried_by_itself(self) -> None:
+        calls = self.SAID[3].replace("not proved", "no proof: it calls `low::line::Line::end`, which is not proved")
+        told, alone = self.tried(1, *self.SAID[:3], calls, self.SAID[4])
+        self.assertEqual((set(told), alone), ({"low/end"}, ["alone"]))
+
+    def test_each_is_tried_by_itself_where_a_check_has_no_end(self) -> None:
+        self.assertEqual(self.tried(3, *self.SAID), ({}, ["alone", "end"]))
+
+    def test_proofs_are_of_their_function(self) -> None:
+        site = wrong_batches.site_of(self.beside("end", EDIT))
+        for place, is_of in (("line/Line/end", True), ("other/Line/end", True), ("line/Other/end", False), ("line/Line/begin", False)):
+            self.assertEqual(wrong_batches.is_of(f"./proofs/{place}/Answers.antt:6:26: error: `value`: no", site, SOURCE), is_of)
 
 
 class Goals(unittest.TestCase):

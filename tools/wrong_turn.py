@@ -55,10 +55,10 @@ def turn(content: str, found: List[pathlib.Path]) -> List[pathlib.Path]:
 
 
 class Purse:
-    """Processor seconds, of which each check is lent some: no more are spent than were there."""
+    """Processor seconds, of which each check is lent some, at most so many: no more are spent than were there."""
 
-    def __init__(self, seconds: float) -> None:
-        self.left, self.lent, self.changed = seconds, 0, threading.Condition()
+    def __init__(self, seconds: float, most: float = MOST) -> None:
+        self.left, self.most, self.lent, self.changed = seconds, most, 0, threading.Condition()
 
     def lend(self) -> int:
         """Seconds for a check; 0 where too few are left, and none will come back."""
@@ -66,7 +66,7 @@ class Purse:
             self.changed.wait_for(lambda: self.left >= LEAST or not self.lent)
             if self.left < LEAST:
                 return 0
-            given = int(min(MOST, self.left))
+            given = int(min(self.most, self.left))
             self.left -= given
             self.lent += 1
             return given
