@@ -8,10 +8,11 @@ use std::alloc::{AllocError, Global};
 use std::fmt;
 use std::io::Write;
 use std::rt::Files;
+use trace_faults::DeviceIds;
 use trace_io::Fault;
 use trace_recorded::{
-    DescribedDevice, DescribedFault, DeviceChoice, DeviceIds, DeviceTexts,
-    described_by_descriptors, described_by_umockdev,
+    DescribedDevice, DescribedFault, DeviceChoice, DeviceTexts, described_by_descriptors,
+    described_by_umockdev,
 };
 
 /// The status of a run that ended early.

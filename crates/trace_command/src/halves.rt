@@ -12,10 +12,11 @@ use std::alloc::Global;
 use std::io::{Read, Write};
 use std::sync::Wait;
 use std::thread::Threads;
-use trace_descriptor::{DescriptorFault, TableStop, description_stop};
+use trace_descriptor::{TableStop, description_stop};
+use trace_faults::{DescriptorFault, TextReader};
 use trace_io::{Fault, Task, read_whole};
 use trace_main::{described_devices, trace};
-use trace_recorded::{DeviceChoice, TextReader};
+use trace_recorded::DeviceChoice;
 use trace_scenario::{NumberedLine, read_lined};
 use usb_scripttext::TextFault;
 

@@ -25,9 +25,10 @@ use std::io::{Read, Write};
 use std::rt::Files;
 use std::sync::Wait;
 use std::thread::Threads;
+use trace_faults::TextReader;
 use trace_io::{Fault, Task, read_words};
 use trace_main::trace;
-use trace_recorded::{DeviceChoice, TextReader};
+use trace_recorded::DeviceChoice;
 
 /// What `--version` prints.
 const VERSION: &[u8] = b"usbtrace 0.1.0\n";

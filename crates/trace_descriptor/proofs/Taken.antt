@@ -10,8 +10,8 @@ use Rattle.usb_descriptors.specs.declared.fault.DescFault.{DescFault}
 use Rattle.usb_descriptors.specs.Grammar.{reading}
 use Rattle.usb_descriptors.specs.Pieces.{byte}
 use Rattle.trace_scenario.specs.Scenario.{nothing_said, scenario_from}
-use Rattle.trace_descriptor.specs.declared.fault.DescriptorFault.{DescriptorFault}
-use Rattle.trace_descriptor.specs.declared.fault.DescriptorFault.TheVariants.{NotADescriptor, NotADevice, NoConfiguration}
+use Rattle.trace_faults.specs.declared.descriptor_fault.DescriptorFault.{DescriptorFault}
+use Rattle.trace_faults.specs.declared.descriptor_fault.DescriptorFault.TheVariants.{NotADescriptor, NotADevice, NoConfiguration}
 use Rattle.trace_descriptor.specs.Device.{text_by, text_of_bytes, text_of_file}
 use Rattle.trace_descriptor.specs.File.{FileParts, parts, parts_of, taken_length}
 use Rattle.trace_descriptor.specs.Input.{by_hex, bytes_of, bytes_of_text, digits, is_text}

@@ -2,8 +2,8 @@
 use Rattle.std.specs.Prelude.{ℕ, ◌==◌, nat_le, nat_lt, ◌&&◌, List, [], take, drop, length, Result, Ok, Err, if◌then◌else◌}
 use Rattle.usb_descriptors.specs.Pieces.{byte}
 use Rattle.usb_descriptors.specs.Grammar.{total_length}
-use Rattle.trace_descriptor.specs.declared.fault.DescriptorFault.{DescriptorFault}
-use Rattle.trace_descriptor.specs.declared.fault.DescriptorFault.TheVariants.{NotADescriptor, NotADevice, NoConfiguration}
+use Rattle.trace_faults.specs.declared.descriptor_fault.DescriptorFault.{DescriptorFault}
+use Rattle.trace_faults.specs.declared.descriptor_fault.DescriptorFault.TheVariants.{NotADescriptor, NotADevice, NoConfiguration}
 
 -- the device descriptor, or nothing; the first configuration, of wTotalLength bytes; what stands behind it
 pub record FileParts : Type 0 where

@@ -1,11 +1,10 @@
 -- The bytes of an input: as they are, or as hexadecimal text.
 use Rattle.std.specs.Prelude.{ℕ, ◌==◌, Bool, ◌&&◌, ◌||◌, List, [], ◌∷◌, ◌++◌, Result, Ok, Err, if◌then◌else◌}
 use Rattle.hex.specs.declared.error.FromHexError.{FromHexError}
-use Rattle.hex.specs.declared.error.FromHexError.TheVariants.{InvalidHexCharacter, OddLength, InvalidStringLength, OutOfMemory}
 use Rattle.hex.specs.Hex.{decode_of, is_hex_digit}
 use Rattle.usb_descriptors.specs.Pieces.{byte}
-use Rattle.trace_descriptor.specs.declared.fault.DescriptorFault.{DescriptorFault}
-use Rattle.trace_descriptor.specs.declared.fault.DescriptorFault.TheVariants.{NotHex, OddDigits, Memory}
+use Rattle.trace_faults.specs.declared.descriptor_fault.DescriptorFault.{DescriptorFault}
+use Rattle.trace_faults.specs.DescriptorFaults.{fault_of_hex}
 
 -- what may stand between the numbers of a text: a space, a line feed, a carriage return, a tab, a colon
 abbrev pub is_between : ℕ → Bool
@@ -39,13 +38,6 @@ is_of_text b = is_hex_digit b || (is_between b || is_x b)
 -- whether an input is text: its first two bytes are of one
 abbrev pub is_text : List ℕ → Bool
 is_text input = is_of_text (byte 0 input) && is_of_text (byte 1 input)
-
--- why a text isn't hexadecimal
-abbrev pub fault_of_hex : FromHexError → DescriptorFault
-fault_of_hex (InvalidHexCharacter c place) = NotHex place
-fault_of_hex OddLength = OddDigits
-fault_of_hex InvalidStringLength = OddDigits
-fault_of_hex OutOfMemory = Memory
 
 abbrev pub by_hex : Result (List ℕ) FromHexError → Result (List ℕ) DescriptorFault
 by_hex (Ok bytes) = Ok bytes

@@ -1,5 +1,4 @@
 pub mod Device
-pub mod Faults
 pub mod File
 pub mod Identity
 pub mod Input

@@ -1,11 +1,11 @@
 //! A file of descriptors as a table.
 
-use crate::fault::DescriptorFault;
 use crate::input::bytes_of;
 use crate::piece::{begins_with_piece, byte_at, front, past, piece_size, total_length};
 use crate::stop::{StopReason, TableStop};
 use crate::table::Table;
 use std::alloc::{AllocError, Global};
+use trace_faults::DescriptorFault;
 
 /// The type of a device descriptor (USB 2.0, table 9-5).
 const DEVICE: u8 = 1;

@@ -2,15 +2,15 @@
 
 ghost use Rattle.std.specs.Prelude.{◌≡◌, ◌++◌, IfErr, IfOk, Ok};
 ghost use Rattle.trace_descriptor.specs.Device.{device_text};
-ghost use Rattle.trace_descriptor.specs.Faults.{IsDescriptorFault};
+ghost use Rattle.trace_faults.specs.DescriptorFaults.{IsDescriptorFault};
 ghost use Rattle.trace_descriptor.specs.Identity.{identity_lines};
 ghost use Rattle.trace_descriptor.specs.Lines.{comments, device_line};
 
-use crate::fault::DescriptorFault;
 use crate::file::DescriptorFile;
 use crate::input::bytes_of;
 use crate::text::DescriptorText;
 use std::alloc::{AllocError, Global};
+use trace_faults::DescriptorFault;
 use usb_descriptors::{Config, read_config};
 
 /// The comments on a file, the line of its device, and what the device descriptor says.

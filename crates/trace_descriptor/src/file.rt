@@ -3,9 +3,9 @@
 ghost use Rattle.std.specs.Prelude.{◌≡◌};
 ghost use Rattle.trace_descriptor.specs.File.{behind_device, parts, parts_of, taken_length};
 
-use crate::fault::DescriptorFault;
 use crate::piece::{byte_at, front, past, total_length};
 use std::marker::Model;
+use trace_faults::DescriptorFault;
 
 /// The type of a device descriptor (USB 2.0, table 9-5).
 const DEVICE: u8 = 1;

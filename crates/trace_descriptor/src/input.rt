@@ -2,12 +2,12 @@
 
 ghost use Rattle.std.specs.Prelude.{◌≡◌, ◌++◌, IfErr, IfOk, Ok};
 ghost use Rattle.hex.specs.Hex.{is_hex_digit};
-ghost use Rattle.trace_descriptor.specs.Faults.{IsDescriptorFault};
+ghost use Rattle.trace_faults.specs.DescriptorFaults.{IsDescriptorFault};
 ghost use Rattle.trace_descriptor.specs.Input.{begins_with_prefix, bytes_of, bytes_of_text, digits, is_between, is_of_text, is_text, is_x, kept};
 
-use crate::fault::DescriptorFault;
 use crate::piece::{byte_at, past};
 use std::alloc::{AllocError, Global};
+use trace_faults::DescriptorFault;
 
 /// Whether a byte may stand between the numbers of a text.
 fn is_between(byte: u8) -> bool

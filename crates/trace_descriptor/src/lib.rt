@@ -11,7 +11,7 @@
 //! - `interface.rt`, specs/Interfaces: interface descriptors
 //! - `text.rt`, `class.rt`, specs/Lines: comments, and the line of the device
 //! - `identity.rt`, specs/Identity: its vendor, product, release and class
-//! - `device.rt`, `fault.rt`, specs/Device, Faults: the whole, or why there is none
+//! - `device.rt`, specs/Device: the whole, or why there is none
 //! - `describe.rt`, `stop.rt`: the table of a file, and why it ends early
 //! - `table.rt`, `kinds.rt`, `layouts.rt`: its printer, which table a descriptor has, and all tables
 //! - `field.rt`, `flags.rt`, `names.rt`, `class_names.rt`: how a field is printed, and what its number stands for
@@ -21,14 +21,12 @@
 //!
 //! - `device_lines`: the text of an input is that of the definition (`device_text`, in specs/Device); an error is that of the
 //!   definition, or want of memory. Nothing is required
-//! - `DescriptorFault`: its printed text is that of the definition (`descriptor_fault_text`)
 #![tactic(auto)]
 
 mod class;
 mod class_names;
 mod describe;
 mod device;
-mod fault;
 mod field;
 mod file;
 mod flags;
@@ -46,5 +44,4 @@ mod text;
 
 pub use describe::{description, description_stop};
 pub use device::device_lines;
-pub use fault::DescriptorFault;
 pub use stop::{StopReason, TableStop};

@@ -10,7 +10,7 @@ use Rattle.clap.specs.declared.error.kind.ErrorKind.TheVariants as kind
 use Rattle.clap.proofs.OnLiterals.{clap_on_literals}
 use Rattle.trace_io.specs.CommandLine.{AreBad, AskFor, AskForHelp, grammar, task_of}
 use Rattle.trace_io.specs.declared.words.Task.{Task}
-use Rattle.trace_recorded.specs.declared.reader.TextReader.TheVariants.{Library, Scenario}
+use Rattle.trace_faults.specs.declared.text_reader.TextReader.TheVariants.{Library, Scenario}
 use Rattle.trace_io.specs.declared.words.Task.TheVariants.{Run, Steps, Packets, Alone, Live, Left, Check, Draw, Page, Capture, Devices, Explain, Test, Device, Describe}
 
 pub run_asks : (name : Text) → AskFor (name ∷ codes "run" ∷ []) Run

@@ -7,12 +7,12 @@ use Rattle.usb_scripttext.specs.declared.text_fault.TextFault.{TextFault}
 use Rattle.usb_scripttext.specs.declared.text_fault.TextFault.TheVariants as text
 use Rattle.trace_io.specs.declared.fault.Fault.{Fault}
 use Rattle.trace_io.specs.declared.fault.Fault.TheVariants.{Line, Memory, InputOutput, Closed, TooLong, Rounds, Wide, Capture, Descriptor}
-use Rattle.trace_recorded.specs.declared.capture_fault.CaptureFault.{CaptureFault}
-use Rattle.trace_recorded.specs.declared.capture_fault.CaptureFault.TheVariants as capture
-use Rattle.trace_recorded.specs.Faults.{capture_fault_text}
-use Rattle.trace_descriptor.specs.declared.fault.DescriptorFault.{DescriptorFault}
-use Rattle.trace_descriptor.specs.declared.fault.DescriptorFault.TheVariants as descriptor
-use Rattle.trace_descriptor.specs.Faults.{descriptor_fault_text}
+use Rattle.trace_faults.specs.declared.capture_fault.CaptureFault.{CaptureFault}
+use Rattle.trace_faults.specs.declared.capture_fault.CaptureFault.TheVariants as capture
+use Rattle.trace_faults.specs.CaptureFaults.{capture_fault_text}
+use Rattle.trace_faults.specs.declared.descriptor_fault.DescriptorFault.{DescriptorFault}
+use Rattle.trace_faults.specs.declared.descriptor_fault.DescriptorFault.TheVariants as descriptor
+use Rattle.trace_faults.specs.DescriptorFaults.{descriptor_fault_text}
 use Rattle.trace_io.specs.Input.{longest_input}
 
 -- the fault of a run whose text has this one

@@ -13,8 +13,7 @@ use std::alloc::AllocError;
 use std::fmt::Write;
 use std::{fmt, io};
 use thiserror::Error;
-use trace_descriptor::DescriptorFault;
-use trace_recorded::CaptureFault;
+use trace_faults::{CaptureFault, DescriptorFault};
 use usb_scripttext::TextFault;
 
 /// How many bytes a message may have. The longest, of a descriptor at an offset of 20 digits, has 130.

@@ -3,7 +3,7 @@
 ghost use Rattle.std.specs.Prelude.{◌<◌, ◌∷◌, [], ℕ, true, false, List, codes};
 ghost use Rattle.std.specs.Fmt.{decimal};
 ghost use Rattle.trace_io.specs.CommandLine.{AreBad, AskFor, AskForHelp};
-ghost use Rattle.trace_recorded.specs.declared.reader.TextReader.TheVariants.{Library, Scenario};
+ghost use Rattle.trace_faults.specs.declared.text_reader.TextReader.TheVariants.{Library, Scenario};
 ghost use Rattle.trace_io.specs.declared.words.Task.TheVariants.{Run, Steps, Packets, Alone, Live, Left, Check, Draw, Page, Capture, Devices, Explain, Test, Device, Describe};
 
 /// Whatever name the program is called by: `run` asks for a run, `run --steps` for a run step by step, `run --packets` for one with its

@@ -16,7 +16,7 @@ use crate::help;
 use clap::builder::ValueParser;
 use clap::{Arg, ArgAction, ArgMatches, Command, Error};
 use std::alloc::{AllocError, Global};
-use trace_recorded::TextReader;
+use trace_faults::TextReader;
 use usb_model::Name;
 
 /// What the program is asked to do.

@@ -7,11 +7,11 @@ use Rattle.trace_io.specs.declared.words.Task.TheVariants.{Run, Steps, Packets, 
 use Rattle.trace_io.specs.Output.{AppendsSome}
 use Rattle.trace_io.proofs.Beginnings.{none_yet, some_behind, some_of_front}
 use Rattle.trace_main.specs.Lived.{AppendsSomeCallbacks}
-use Rattle.trace_recorded.specs.declared.capture_fault.CaptureFault.{CaptureFault}
+use Rattle.trace_faults.specs.declared.capture_fault.CaptureFault.{CaptureFault}
 use Rattle.trace_recorded.specs.declared.scenario.RecordedScenario.{RecordedScenario}
 use Rattle.trace_recorded.specs.Scenario.{recorded_scenario}
 use Rattle.trace_run.specs.Tasks.{AppendsAny}
-use Rattle.trace_descriptor.specs.declared.fault.DescriptorFault.{DescriptorFault}
+use Rattle.trace_faults.specs.declared.descriptor_fault.DescriptorFault.{DescriptorFault}
 use Rattle.trace_descriptor.specs.Device.{device_text}
 use Rattle.trace_main.specs.Program.{Begins, BeginsDevice, BeginsOutcome, BeginsRecorded}
 

@@ -4,12 +4,12 @@ use Rattle.std.specs.Io.KnownBytes.{Keeps}
 use Rattle.trace_io.specs.declared.fault.Fault.{Fault}
 use Rattle.trace_io.specs.Faults.{fault_of_capture, message_of}
 use Rattle.trace_io.specs.Output.{AppendsSome}
-use Rattle.trace_recorded.specs.declared.capture_fault.CaptureFault.{CaptureFault}
-use Rattle.trace_recorded.specs.declared.capture_fault.CaptureFault.TheVariants as capture
+use Rattle.trace_faults.specs.declared.capture_fault.CaptureFault.{CaptureFault}
+use Rattle.trace_faults.specs.declared.capture_fault.CaptureFault.TheVariants as capture
 use Rattle.trace_recorded.specs.declared.choice.DeviceChoice.{DeviceChoice}
-use Rattle.trace_recorded.specs.declared.reader.TextReader.{TextReader}
+use Rattle.trace_faults.specs.declared.text_reader.TextReader.{TextReader}
 use Rattle.trace_recorded.specs.DescribedText.{described_scenario}
-use Rattle.trace_recorded.specs.Faults.{IsCaptureFault}
+use Rattle.trace_faults.specs.CaptureFaults.{IsCaptureFault}
 use Rattle.trace_run.specs.declared.tasks.TaskEnd.{TaskEnd}
 use Rattle.trace_run.specs.declared.tasks.TaskEnd.TheVariants.{Good, BadLines, NoDevices, Differs, Unexpected}
 use Rattle.trace_main.specs.Described.{EndsDescribed, FindsDescribed, IsOfDevices, PerformsDescribed, TellsRefusal}

@@ -20,15 +20,15 @@ use Rattle.trace_io.specs.Input.{longest_input}
 use Rattle.trace_io.specs.declared.fault.Fault.{Fault}
 use Rattle.trace_io.specs.declared.fault.Fault.TheVariants as why
 use Rattle.trace_io.specs.declared.fault.Fault.TheVariants.{Line, Memory, InputOutput, Closed, TooLong, Rounds, Wide}
-use Rattle.trace_descriptor.specs.declared.fault.DescriptorFault.{DescriptorFault}
-use Rattle.trace_descriptor.specs.declared.fault.DescriptorFault.TheVariants as descriptor
-use Rattle.trace_descriptor.specs.Faults.{IsDescriptorFault}
+use Rattle.trace_faults.specs.declared.descriptor_fault.DescriptorFault.{DescriptorFault}
+use Rattle.trace_faults.specs.declared.descriptor_fault.DescriptorFault.TheVariants as descriptor
+use Rattle.trace_faults.specs.DescriptorFaults.{IsDescriptorFault}
 use Rattle.trace_descriptor.specs.Device.{device_text}
 use Rattle.trace_test.specs.Tests.{IsOfTest}
-use Rattle.trace_recorded.specs.declared.capture_fault.CaptureFault.{CaptureFault}
-use Rattle.trace_recorded.specs.declared.capture_fault.CaptureFault.TheVariants as capture
-use Rattle.trace_recorded.specs.declared.reader.TextReader.{TextReader}
-use Rattle.trace_recorded.specs.Faults.{IsCaptureFault}
+use Rattle.trace_faults.specs.declared.capture_fault.CaptureFault.{CaptureFault}
+use Rattle.trace_faults.specs.declared.capture_fault.CaptureFault.TheVariants as capture
+use Rattle.trace_faults.specs.declared.text_reader.TextReader.{TextReader}
+use Rattle.trace_faults.specs.CaptureFaults.{IsCaptureFault}
 use Rattle.trace_recorded.specs.Scenario.{recorded_scenario}
 use Rattle.trace_scenario.specs.declared.scenario.Scenario.{Scenario}
 use Rattle.trace_main.specs.Lived.{lived_in, AppendsCallbacks, GoesOn, IsOfLive}

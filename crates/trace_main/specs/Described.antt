@@ -7,7 +7,7 @@ use Rattle.trace_io.specs.Faults.{message_of}
 use Rattle.trace_io.specs.Input.{longest_input}
 use Rattle.trace_io.specs.Output.{AppendsSome}
 use Rattle.trace_recorded.specs.declared.choice.DeviceChoice.{DeviceChoice}
-use Rattle.trace_recorded.specs.declared.reader.TextReader.{TextReader}
+use Rattle.trace_faults.specs.declared.text_reader.TextReader.{TextReader}
 use Rattle.trace_recorded.specs.declared.scenario.RecordedScenario.{RecordedScenario}
 use Rattle.trace_recorded.specs.DescribedText.{described_scenario}
 use Rattle.trace_run.specs.declared.tasks.TaskEnd.{TaskEnd}

@@ -7,11 +7,11 @@ use Rattle.trace_run.specs.declared.tasks.TaskEnd.{TaskEnd}
 use Rattle.trace_run.specs.declared.tasks.TaskEnd.TheVariants.{Good, BadLines, NoDevices, Differs, Unexpected}
 use Rattle.trace_run.specs.Stepwise.{stepwise_text}
 use Rattle.trace_run.specs.Tasks.{AppendsAny, alone_text, capture_bytes, left_lines, run_text}
-use Rattle.trace_recorded.specs.declared.capture_fault.CaptureFault.{CaptureFault}
+use Rattle.trace_faults.specs.declared.capture_fault.CaptureFault.{CaptureFault}
 use Rattle.trace_recorded.specs.declared.scenario.RecordedScenario.{RecordedScenario}
-use Rattle.trace_recorded.specs.declared.reader.TextReader.{TextReader}
+use Rattle.trace_faults.specs.declared.text_reader.TextReader.{TextReader}
 use Rattle.trace_recorded.specs.Scenario.{recorded_scenario}
-use Rattle.trace_descriptor.specs.declared.fault.DescriptorFault.{DescriptorFault}
+use Rattle.trace_faults.specs.declared.descriptor_fault.DescriptorFault.{DescriptorFault}
 use Rattle.trace_descriptor.specs.Device.{device_text}
 use Rattle.trace_explain.specs.Explained.{explained_text}
 use Rattle.trace_explain.specs.declared.telling.Telling.{Telling}

@@ -10,8 +10,9 @@ ghost use Rattle.trace_main.specs.Program.{BeginsRecorded};
 use crate::program::status_of;
 use std::alloc::Global;
 use std::io::{Read, Write};
+use trace_faults::TextReader;
 use trace_io::{Fault, read_whole, write_bytes};
-use trace_recorded::{DeviceChoice, RecordedScenario, TextReader, described_scenario};
+use trace_recorded::{DeviceChoice, RecordedScenario, described_scenario};
 use trace_run::TaskEnd;
 
 /// Prints the device that is meant, for who reads it. Nothing is printed where the capture isn't read or has no such device.

@@ -7,8 +7,9 @@ ghost use Rattle.trace_main.specs.Program.{Begins, Performs};
 
 use std::alloc::Global;
 use std::io::Write;
+use trace_faults::TextReader;
 use trace_io::{Fault, write_bytes};
-use trace_recorded::{RecordedScenario, TextReader, recorded_scenario};
+use trace_recorded::{RecordedScenario, recorded_scenario};
 use trace_run::TaskEnd;
 
 /// Prints the devices of a capture, and what they answered, for who reads it. Nothing is printed where the capture isn't read.

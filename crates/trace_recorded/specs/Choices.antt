@@ -5,7 +5,7 @@ use Rattle.trace_recorded.specs.declared.choice.DeviceChoice.{DeviceChoice}
 use Rattle.trace_recorded.specs.declared.choice.DeviceSearch.{DeviceSearch}
 use Rattle.trace_recorded.specs.declared.choice.SeenDevice.{SeenDevice}
 use Rattle.trace_recorded.specs.declared.described.DescribedDevice.{DescribedDevice}
-use Rattle.trace_recorded.specs.declared.described.DeviceIds.{DeviceIds}
+use Rattle.trace_faults.specs.declared.device_ids.DeviceIds.{DeviceIds}
 use Rattle.trace_recorded.specs.declared.described.DevicePlace.{DevicePlace}
 use Rattle.trace_recorded.specs.declared.event.RecordedEvent.{RecordedEvent}
 use Rattle.trace_recorded.specs.Controls.{controls_of}

@@ -11,7 +11,7 @@ use Rattle.trace_recorded.specs.declared.completed.KnownDescriptor.{KnownDescrip
 use Rattle.trace_recorded.specs.declared.configuration.Configurations.{Configurations}
 use Rattle.trace_recorded.specs.declared.controls.Controls.{Controls}
 use Rattle.trace_recorded.specs.declared.described.DescribedDevice.{DescribedDevice}
-use Rattle.trace_recorded.specs.declared.described.DeviceIds.{DeviceIds}
+use Rattle.trace_faults.specs.declared.device_ids.DeviceIds.{DeviceIds}
 use Rattle.trace_recorded.specs.declared.event.RecordedEvent.{RecordedEvent}
 use Rattle.trace_recorded.specs.declared.event.RecordedType.TheVariants.{Submission, Callback}
 use Rattle.trace_recorded.specs.declared.identity.DeviceIdentity.{DeviceIdentity}
@@ -28,13 +28,6 @@ ids_of descriptor = record {
 
 abbrev pub is_same : DeviceIds → DeviceIds → Bool
 is_same ids others = (ids.vendor == others.vendor) && (ids.product == others.product)
-
--- as lsusb has them: four hexadecimal digits each
-abbrev pub hex_number : ℕ → List ℕ
-hex_number number = hex_byte (number / 256) ++ hex_byte (number % 256)
-
-abbrev pub ids_text : DeviceIds → List ℕ
-ids_text ids = hex_number ids.vendor ++ (codes ":" ++ hex_number ids.product)
 
 -- the device descriptor of a file, where none was read
 abbrev pub missing_device : DescribedDevice → DeviceIdentity → List KnownDescriptor

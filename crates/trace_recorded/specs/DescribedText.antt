@@ -2,8 +2,8 @@
 use Rattle.std.specs.Prelude.{ℕ, nat_lt, Bool, true, false, List, [], ◌∷◌, ◌++◌, codes, string_bytes, Option, Some, None, Result, Ok, Err, if◌then◌else◌}
 use Rattle.std.specs.Fmt.{decimal}
 use Rattle.std.specs.List.{flat_map}
-use Rattle.trace_recorded.specs.declared.capture_fault.CaptureFault.{CaptureFault}
-use Rattle.trace_recorded.specs.declared.capture_fault.CaptureFault.TheVariants.{NoDevice}
+use Rattle.trace_faults.specs.declared.capture_fault.CaptureFault.{CaptureFault}
+use Rattle.trace_faults.specs.declared.capture_fault.CaptureFault.TheVariants.{NoDevice}
 use Rattle.trace_recorded.specs.declared.choice.DeviceChoice.{DeviceChoice}
 use Rattle.trace_recorded.specs.declared.choice.SeenDevice.{SeenDevice}
 use Rattle.trace_recorded.specs.declared.completed.DescriptorKind.{DescriptorKind}
@@ -12,8 +12,8 @@ use Rattle.trace_recorded.specs.declared.completed.KnownDescriptor.{KnownDescrip
 use Rattle.trace_recorded.specs.declared.described.DescribedDevice.{DescribedDevice}
 use Rattle.trace_recorded.specs.declared.described.DeviceSpeed.{DeviceSpeed}
 use Rattle.trace_recorded.specs.declared.described.DeviceSpeed.TheVariants.{Low, Full, High}
-use Rattle.trace_recorded.specs.declared.reader.TextReader.{TextReader}
-use Rattle.trace_recorded.specs.declared.reader.TextReader.TheVariants.{Library, Scenario}
+use Rattle.trace_faults.specs.declared.text_reader.TextReader.{TextReader}
+use Rattle.trace_faults.specs.declared.text_reader.TextReader.TheVariants.{Library, Scenario}
 use Rattle.trace_recorded.specs.declared.recording.Recording.{Recording}
 use Rattle.trace_recorded.specs.declared.scenario.Listing.{Listing}
 use Rattle.trace_recorded.specs.declared.scenario.RecordedScenario.{RecordedScenario}

@@ -15,8 +15,8 @@ use Rattle.trace_recorded.specs.declared.identity.DeviceIdentity.{DeviceIdentity
 use Rattle.trace_recorded.specs.declared.identity.RecordedString.{RecordedString}
 use Rattle.trace_recorded.specs.declared.note.EndpointNote.TheVariants.{Lost, Requests, TooMany}
 use Rattle.trace_recorded.specs.declared.note.Noted.{Noted}
-use Rattle.trace_recorded.specs.declared.reader.TextReader.{TextReader}
-use Rattle.trace_recorded.specs.declared.reader.TextReader.TheVariants.{Library, Scenario}
+use Rattle.trace_faults.specs.declared.text_reader.TextReader.{TextReader}
+use Rattle.trace_faults.specs.declared.text_reader.TextReader.TheVariants.{Library, Scenario}
 use Rattle.trace_recorded.specs.declared.waits.Source.{Source}
 use Rattle.trace_recorded.specs.declared.waits.Source.TheVariants as source
 use Rattle.trace_recorded.specs.declared.waits.Wait.{Wait}

@@ -17,8 +17,8 @@ use Rattle.trace_recorded.specs.declared.endpoint.RecordedEndpoint.{RecordedEndp
 use Rattle.trace_recorded.specs.declared.device.OtherTransfer.{OtherTransfer}
 use Rattle.trace_recorded.specs.declared.device.RecordedDevice.{RecordedDevice}
 use Rattle.trace_recorded.specs.declared.left_out.LeftOut.{LeftOut}
-use Rattle.trace_recorded.specs.declared.reader.TextReader.{TextReader}
-use Rattle.trace_recorded.specs.declared.reader.TextReader.TheVariants.{Library, Scenario}
+use Rattle.trace_faults.specs.declared.text_reader.TextReader.{TextReader}
+use Rattle.trace_faults.specs.declared.text_reader.TextReader.TheVariants.{Library, Scenario}
 use Rattle.trace_recorded.specs.declared.left_out.LeftOut.TheVariants.{NoConfiguration, Refused, Hub, NoAnswers}
 use Rattle.trace_recorded.specs.Configurations.{configuration_by}
 use Rattle.trace_recorded.specs.Controls.{controls_of}

@@ -6,8 +6,8 @@ use Rattle.trace_recorded.specs.declared.number.Endianness.TheVariants.{Little, 
 use Rattle.trace_recorded.specs.declared.event.EventHeader.{EventHeader}
 use Rattle.trace_recorded.specs.declared.event.EventHeader.TheVariants.{Mapped, Plain, Windows}
 use Rattle.trace_recorded.specs.declared.event.RecordedEvent.{RecordedEvent}
-use Rattle.trace_recorded.specs.declared.capture_fault.CaptureFault.{CaptureFault}
-use Rattle.trace_recorded.specs.declared.capture_fault.CaptureFault.TheVariants.{NotACapture, HeaderCutShort, LinkType, NoInterface}
+use Rattle.trace_faults.specs.declared.capture_fault.CaptureFault.{CaptureFault}
+use Rattle.trace_faults.specs.declared.capture_fault.CaptureFault.TheVariants.{NotACapture, HeaderCutShort, LinkType, NoInterface}
 use Rattle.trace_recorded.specs.declared.recording.Recording.{Recording}
 use Rattle.trace_recorded.specs.declared.recording.FileForm.{FileForm}
 use Rattle.trace_recorded.specs.declared.recording.FileForm.TheVariants.{Pcap, Pcapng}

@@ -11,7 +11,6 @@ pub mod DeviceText
 pub mod Devices
 pub mod Endpoints
 pub mod Events
-pub mod Faults
 pub mod Files
 pub mod Folds
 pub mod Identity

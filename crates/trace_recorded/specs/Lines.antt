@@ -10,7 +10,7 @@ use Rattle.usb_model.specs.Text.{hex_byte}
 use Rattle.trace_recorded.specs.declared.answer.RecordedAnswer.{RecordedAnswer}
 use Rattle.trace_recorded.specs.declared.answer.RecordedAnswer.TheVariants.{Given, Taken}
 use Rattle.trace_recorded.specs.declared.answer.WrittenBytes.{WrittenBytes}
-use Rattle.trace_recorded.specs.declared.described.DeviceIds.{DeviceIds}
+use Rattle.trace_faults.specs.declared.device_ids.DeviceIds.{DeviceIds}
 use Rattle.trace_recorded.specs.declared.endpoint.RecordedEndpoint.{RecordedEndpoint}
 use Rattle.trace_recorded.specs.declared.left_out.LeftOut.{LeftOut}
 use Rattle.trace_recorded.specs.declared.left_out.LeftOut.TheVariants.{NoConfiguration, Refused, Hub, NoAnswers, FifthDevice}
@@ -18,7 +18,7 @@ use Rattle.trace_recorded.specs.declared.device.OtherTransfer.{OtherTransfer}
 use Rattle.trace_recorded.specs.declared.note.EndpointNote.{EndpointNote}
 use Rattle.trace_recorded.specs.declared.note.EndpointNote.TheVariants.{Lost, TooLong, TooLarge, Requests, TooMany, Others}
 use Rattle.trace_recorded.specs.declared.note.Noted.{Noted}
-use Rattle.trace_recorded.specs.Described.{ids_text}
+use Rattle.trace_faults.specs.CaptureFaults.{ids_text}
 use Rattle.trace_recorded.specs.Endpoints.{no_note, with_noted}
 use Rattle.trace_recorded.specs.Folds.{after}
 use Rattle.trace_recorded.specs.Requests.{most_data}

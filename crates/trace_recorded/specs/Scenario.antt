@@ -1,13 +1,13 @@
 -- The scenario that is made of a capture: what its devices answered.
 use Rattle.std.specs.Prelude.{ℕ, ◌+◌, nat_lt, Bool, List, [], ◌∷◌, ◌++◌, codes, Option, Result, Ok, Err, if◌then◌else◌}
 use Rattle.std.specs.Option.{option_map}
-use Rattle.trace_recorded.specs.declared.capture_fault.CaptureFault.{CaptureFault}
-use Rattle.trace_recorded.specs.declared.described.DeviceIds.{DeviceIds}
+use Rattle.trace_faults.specs.declared.capture_fault.CaptureFault.{CaptureFault}
+use Rattle.trace_faults.specs.declared.device_ids.DeviceIds.{DeviceIds}
 use Rattle.trace_recorded.specs.declared.device.RecordedDevice.{RecordedDevice}
 use Rattle.trace_recorded.specs.declared.event.RecordedEvent.{RecordedEvent}
 use Rattle.trace_recorded.specs.declared.left_out.LeftOut.{LeftOut}
 use Rattle.trace_recorded.specs.declared.left_out.LeftOut.TheVariants.{FifthDevice}
-use Rattle.trace_recorded.specs.declared.reader.TextReader.{TextReader}
+use Rattle.trace_faults.specs.declared.text_reader.TextReader.{TextReader}
 use Rattle.trace_recorded.specs.declared.recording.Recording.{Recording}
 use Rattle.trace_recorded.specs.declared.scenario.Listing.{Listing}
 use Rattle.trace_recorded.specs.declared.scenario.RecordedScenario.{RecordedScenario}

@@ -7,11 +7,12 @@ ghost use Rattle.trace_recorded.specs.Described.{ids_of};
 ghost use Rattle.trace_recorded.specs.Devices.{by_device};
 
 use crate::controls::{Controls, read_controls};
-use crate::described::{DescribedDevice, DeviceIds, DevicePlace};
+use crate::described::{DescribedDevice, DevicePlace, ids_of, is_same};
 use crate::device::by_device;
 use crate::event::RecordedEvent;
 use crate::scenario::first_frame;
 use std::alloc::{AllocError, Global};
+use trace_faults::DeviceIds;
 use usb_model::{Bytes, Sequence};
 
 /// Which device of a capture is meant, and what a file says of it.
@@ -68,7 +69,7 @@ impl DeviceChoice {
     {
         let ids = match asked {
             Some(ids) => ids,
-            None => DeviceIds::of(described.descriptor.as_slice()),
+            None => ids_of(described.descriptor.as_slice()),
         };
         DeviceChoice {
             ids,
@@ -81,7 +82,7 @@ impl DeviceChoice {
         ensures { result ≡ wants_file self.now }
     {
         match &self.described {
-            Some(described) => DeviceIds::of(described.descriptor.as_slice()).is_same(self.ids),
+            Some(described) => is_same(ids_of(described.descriptor.as_slice()), self.ids),
             None => false,
         }
     }
@@ -128,7 +129,7 @@ impl SeenDevice {
         ensures { result ≡ has_ids ids self.now }
     {
         match &self.descriptor {
-            Some(descriptor) => DeviceIds::of(descriptor.as_slice()).is_same(ids),
+            Some(descriptor) => is_same(ids_of(descriptor.as_slice()), ids),
             None => false,
         }
     }

@@ -2,21 +2,13 @@
 
 ghost use Rattle.std.specs.Prelude.{◌≡◌, Some};
 ghost use Rattle.trace_recorded.specs.Lines.{said_ids};
-ghost use Rattle.trace_recorded.specs.Described.{hex_number, ids_of, ids_text, is_same};
+ghost use Rattle.trace_recorded.specs.Described.{ids_of, is_same};
 
 use crate::configuration::byte_or_zero;
 use crate::identity::RecordedString;
 use std::fmt;
-use usb_model::{Bytes, EpAddr, Sequence};
-
-/// Whose device it is: its vendor and its product (USB 2.0, 9.6.1).
-#[derive(Clone, Copy, PartialEq, Eq, Debug)]
-pub struct DeviceIds {
-    /// The vendor's number.
-    pub vendor: u16,
-    /// The product's, among those of the vendor.
-    pub product: u16,
-}
+use trace_faults::DeviceIds;
+use usb_model::{Bytes, Sequence};
 
 /// Where a device stood.
 #[derive(Clone, Copy, PartialEq, Eq, Debug)]
@@ -55,51 +47,23 @@ pub struct DescribedDevice {
     pub(crate) place: Option<DevicePlace>,
 }
 
-impl DeviceIds {
-    /// Those of a device descriptor.
-    pub(crate) fn of(descriptor: &[u8]) -> DeviceIds
-        ensures { result ≡ ids_of descriptor.now }
-    {
-        let (low, high) = (byte_or_zero(descriptor, 8), byte_or_zero(descriptor, 9));
-        let (lower, upper) = (byte_or_zero(descriptor, 10), byte_or_zero(descriptor, 11));
-        DeviceIds {
-            vendor: u16::from(low) + 256 * u16::from(high),
-            product: u16::from(lower) + 256 * u16::from(upper),
-        }
-    }
-
-    /// Whether they are these.
-    pub(crate) fn is_same(self, other: DeviceIds) -> bool
-        ensures { result ≡ is_same self other }
-    {
-        self.vendor == other.vendor && self.product == other.product
+/// The ids of a device descriptor.
+pub(crate) fn ids_of(descriptor: &[u8]) -> DeviceIds
+    ensures { result ≡ ids_of descriptor.now }
+{
+    let (low, high) = (byte_or_zero(descriptor, 8), byte_or_zero(descriptor, 9));
+    let (lower, upper) = (byte_or_zero(descriptor, 10), byte_or_zero(descriptor, 11));
+    DeviceIds {
+        vendor: u16::from(low) + 256 * u16::from(high),
+        product: u16::from(lower) + 256 * u16::from(upper),
     }
 }
 
-/// A number as lsusb has it: four hexadecimal digits.
-#[derive(Clone, Copy)]
-struct HexNumber(u16);
-
-impl fmt::Display for HexNumber {
-    ghost output = { λ number. Some (hex_number number.0) };
-
-    fn fmt<W: fmt::Write>(&self, f: &mut fmt::Formatter<W>) -> fmt::Result {
-        // An address is printed as any byte: two hexadecimal digits.
-        let number = self.0;
-        let high = EpAddr::new((number / 256) as u8);
-        let low = EpAddr::new((number % 256) as u8);
-        write!(f, "{high}{low}")
-    }
-}
-
-/// As lsusb has them.
-impl fmt::Display for DeviceIds {
-    ghost output = { λ ids. Some (ids_text ids) };
-
-    fn fmt<W: fmt::Write>(&self, f: &mut fmt::Formatter<W>) -> fmt::Result {
-        let (vendor, product) = (HexNumber(self.vendor), HexNumber(self.product));
-        write!(f, "{vendor}:{product}")
-    }
+/// Whether two devices have the same ids.
+pub(crate) fn is_same(ids: DeviceIds, others: DeviceIds) -> bool
+    ensures { result ≡ is_same ids others }
+{
+    ids.vendor == others.vendor && ids.product == others.product
 }
 
 /// The ids that a device says itself, behind a blank and in brackets; nothing where they weren't read.

@@ -5,10 +5,10 @@ ghost use Rattle.trace_recorded.specs.DescribedText.{is_printed, known_text, sou
 
 use crate::completed::{DescriptorKind, KnownDescriptor};
 use crate::described::DeviceSpeed;
-use crate::reader::TextReader;
 use crate::text::ScenarioText;
 use std::alloc::AllocError;
 use std::fmt;
+use trace_faults::TextReader;
 
 impl DescriptorKind {
     /// Whether a text has a line of it.

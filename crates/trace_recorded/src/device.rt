@@ -11,11 +11,11 @@ use crate::hub::is_hub;
 use crate::identity::DeviceIdentity;
 use crate::left_out::LeftOut;
 use crate::note::Noted;
-use crate::reader::TextReader;
 use crate::request::AnsweredRequests;
 use crate::session::session_of;
 use crate::table::ByNumber;
 use std::alloc::{AllocError, Global};
+use trace_faults::TextReader;
 use usb_descriptors::read_config;
 use usb_model::{Bytes, EndpointInfo, EpAddr, Kind, Sequence};
 

@@ -7,9 +7,9 @@ ghost use Rattle.trace_recorded.specs.DeviceText.{descriptor_head, descriptor_li
 use crate::device::RecordedDevice;
 use crate::identity::{DeviceIdentity, RecordedString};
 use crate::note::EndpointNote;
-use crate::reader::TextReader;
 use crate::text::ScenarioText;
 use std::alloc::AllocError;
+use trace_faults::TextReader;
 use usb_model::{Bytes, EpAddr};
 
 /// The default control endpoint.

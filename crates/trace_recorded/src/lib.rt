@@ -23,8 +23,8 @@
 //! - `session.rt`, specs/Sessions: all endpoints of a device, over its events in order
 //! - `hub.rt`, `device.rt`, `left_out.rt`, specs/Devices: the devices of a recording, and which are left out
 //! - `note.rt`, `text.rt`, `answer_text.rt`, specs/Lines: notes and scripts
-//! - `reader.rt`, `control_text.rt`, `wait_text.rt`, `device_text.rt`, specs/DeviceText: the lines of a device, for who reads them
-//! - `scenario.rt`, `capture_fault.rt`, specs/Scenario, Faults: the whole, or why there is none
+//! - `control_text.rt`, `wait_text.rt`, `device_text.rt`, specs/DeviceText: the lines of a device, for who reads them
+//! - `scenario.rt`, specs/Scenario: the whole, or why there is none
 //! - `described.rt`, `described_file.rt`, `umockdev.rt`, `described_fault.rt`, specs/DescribedFiles: a device as a file describes it
 //! - `choice.rt`, specs/Choices: which device of a capture is meant
 //! - `completed.rt`, specs/Described: what a file says of a device and its events don't, as events in front of these
@@ -40,7 +40,6 @@
 //! - `described_by_descriptors`: a file's device descriptor, its configurations and the speed are those of the definition (`Describes`, in
 //!   specs/DescribedFiles), and so is an error. Of strings, and of a file of umockdev-record, no contract says what is read
 //! - `laws::unsaid`, `laws::events_stay`: nothing is put in front of a device's events that they say themselves, and these stay as they are
-//! - `CaptureFault`: its printed text is that of the definition (`capture_fault_text`)
 //! - `event_of`: the event of a packet's bytes is that of the definition, in either byte order and behind each header
 //! - `RecordedEnd::of`: how a transfer ended, by the number of its status
 //! - `answers_of`: the answers of a recorded transfer are those of the definition
@@ -66,7 +65,6 @@ mod answer;
 mod answer_text;
 mod answers;
 mod block;
-mod capture_fault;
 mod choice;
 mod completed;
 mod configuration;
@@ -93,7 +91,6 @@ mod one_device;
 mod packets;
 mod pcap;
 mod pcapng;
-mod reader;
 mod recording;
 mod request;
 mod scenario;
@@ -108,15 +105,13 @@ mod waits;
 mod windows;
 
 pub use answers::answers_of;
-pub use capture_fault::CaptureFault;
 pub use choice::DeviceChoice;
-pub use described::{DescribedDevice, DeviceIds, DevicePlace, DeviceSpeed};
+pub use described::{DescribedDevice, DevicePlace, DeviceSpeed};
 pub use described_fault::DescribedFault;
 pub use described_file::{DeviceTexts, described_by_descriptors};
 pub use event::{EventHeader, RecordedEvent, RecordedType, event_of};
 pub use number::Endianness;
 pub use one_device::described_scenario;
-pub use reader::TextReader;
 pub use scenario::{RecordedScenario, recorded_scenario};
 pub use transfer::{RecordedEnd, RecordedTransfer};
 pub use umockdev::described_by_umockdev;

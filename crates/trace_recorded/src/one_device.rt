@@ -3,19 +3,18 @@
 ghost use Rattle.std.specs.Prelude.{◌≡◌, IfErr, IfOk, Ok, Some};
 ghost use Rattle.trace_recorded.specs.DescribedText.{described_by, described_scenario, listing_by, with_sources};
 ghost use Rattle.trace_recorded.specs.Described.{completed};
-ghost use Rattle.trace_recorded.specs.Faults.{IsCaptureFault};
+ghost use Rattle.trace_faults.specs.CaptureFaults.{IsCaptureFault};
 ghost use Rattle.trace_recorded.specs.Scenario.{no_device, with_found};
 
-use crate::capture_fault::CaptureFault;
 use crate::choice::{DeviceChoice, SeenDevice, chosen};
 use crate::completed::{KnownDescriptor, completed, missing_of};
 use crate::described::DescribedDevice;
-use crate::reader::TextReader;
 use crate::recording::read_recording;
 use crate::scenario::{Listing, RecordedScenario};
 use crate::text::ScenarioText;
 use std::alloc::{AllocError, Global};
 use std::mem;
+use trace_faults::{CaptureFault, TextReader};
 
 impl Listing {
     /// The lines of a device that is kept stand between what is from the file and its speed.

@@ -1,15 +1,15 @@
 //! pcap files (pcap-savefile(5)).
 
 ghost use Rattle.std.specs.Prelude.{◌≡◌, ◌+◌, ◌≤◌, ◌++◌, length, IfErr, IfOk, Ok};
-ghost use Rattle.trace_recorded.specs.Faults.{IsCaptureFault};
+ghost use Rattle.trace_faults.specs.CaptureFaults.{IsCaptureFault};
 ghost use Rattle.trace_recorded.specs.Files.{begins_with_record, events_in, next_frame, pcap, record_size, records};
 
-use crate::capture_fault::CaptureFault;
 use crate::event::{EventHeader, RecordedEvent, event_of};
 use crate::number::Endianness;
 use crate::packets::past;
 use crate::recording::Recording;
 use std::alloc::{AllocError, Global};
+use trace_faults::CaptureFault;
 use usb_model::Sequence;
 
 /// How many bytes stand in front of all records.

@@ -2,18 +2,18 @@
 
 ghost use Rattle.std.specs.Prelude.{◌≡◌, ◌+◌, ◌≤◌, length, IfErr, IfOk, Ok};
 ghost use Rattle.trace_recorded.specs.Blocks.{IsWithin};
-ghost use Rattle.trace_recorded.specs.Faults.{IsCaptureFault};
+ghost use Rattle.trace_faults.specs.CaptureFaults.{IsCaptureFault};
 ghost use Rattle.trace_recorded.specs.Files.{blocks_behind, fields_size, header_of_link, nothing_read, packet_at, pcapng, recording_of, with_block, with_front, with_interface, with_packet};
 
 use crate::block::{
     ENHANCED_PACKET, Front, INTERFACE_DESCRIPTION, OLD_PACKET, SECTION_HEADER, SIMPLE_PACKET,
 };
-use crate::capture_fault::CaptureFault;
 use crate::event::{EventHeader, RecordedEvent};
 use crate::number::Endianness;
 use crate::pcap::{next_frame, push_event};
 use crate::recording::Recording;
 use std::alloc::{AllocError, Global};
+use trace_faults::CaptureFault;
 use usb_model::Sequence;
 
 /// How reading a file ends.

@@ -1,15 +1,15 @@
 //! The events of a capture file.
 
 ghost use Rattle.std.specs.Prelude.{◌≡◌, IfErr, IfOk, Ok};
-ghost use Rattle.trace_recorded.specs.Faults.{IsCaptureFault};
+ghost use Rattle.trace_faults.specs.CaptureFaults.{IsCaptureFault};
 ghost use Rattle.trace_recorded.specs.Files.{form_of, header_of_link, recording};
 
-use crate::capture_fault::CaptureFault;
 use crate::event::{EventHeader, RecordedEvent};
 use crate::number::Endianness;
 use crate::pcap::pcap;
 use crate::pcapng::pcapng;
 use std::alloc::Global;
+use trace_faults::CaptureFault;
 use usb_model::Sequence;
 
 /// What was recorded in a capture file.

@@ -1,19 +1,18 @@
 //! The scenario that is made of a capture.
 
 ghost use Rattle.std.specs.Prelude.{◌≡◌, ◌<◌, IfErr, IfOk, Ok};
-ghost use Rattle.trace_recorded.specs.Faults.{IsCaptureFault};
+ghost use Rattle.trace_faults.specs.CaptureFaults.{IsCaptureFault};
 ghost use Rattle.trace_recorded.specs.Scenario.{cut_line, first_frame, known_ids, listing_of, no_device, recorded_scenario, scenario_by, with_device, with_found, with_kept};
 
-use crate::capture_fault::CaptureFault;
 use crate::controls::{Controls, read_controls};
-use crate::described::DeviceIds;
+use crate::described::ids_of;
 use crate::device::{RecordedDevice, by_device, device_of};
 use crate::event::RecordedEvent;
 use crate::left_out::LeftOut;
-use crate::reader::TextReader;
 use crate::recording::read_recording;
 use crate::text::ScenarioText;
 use std::alloc::{AllocError, Global};
+use trace_faults::{CaptureFault, DeviceIds, TextReader};
 use usb_model::{Bytes, Sequence};
 
 /// How many devices a scenario may have.
@@ -57,7 +56,7 @@ fn known_ids(alloc: Global, events: &[RecordedEvent]) -> Result<Option<DeviceIds
 {
     let Controls { identity, .. } = read_controls(alloc, events)?;
     match &identity.descriptor {
-        Some(descriptor) => Ok(Some(DeviceIds::of(descriptor.as_slice()))),
+        Some(descriptor) => Ok(Some(ids_of(descriptor.as_slice()))),
         None => Ok(None),
     }
 }

@@ -5,13 +5,14 @@ ghost use Rattle.std.specs.List.{flat_map};
 ghost use Rattle.hex.specs.Hex.{encode_lower};
 ghost use Rattle.trace_recorded.specs.Lines.{endpoint_notes, left_out_line, note_line, noted_of, other_note, other_notes, script_head, script_line, script_text, with_other_of};
 
-use crate::described::{DeviceIds, SaidIds};
+use crate::described::SaidIds;
 use crate::device::OtherTransfer;
 use crate::endpoint::RecordedEndpoint;
 use crate::left_out::LeftOut;
 use crate::note::{EndpointNote, Noted};
 use std::alloc::{AllocError, Global};
 use std::marker::Model;
+use trace_faults::DeviceIds;
 use usb_model::{Bytes, EpAddr, Sequence};
 
 /// A text that is written line by line; contracts see its bytes.

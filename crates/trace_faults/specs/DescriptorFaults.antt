@@ -1,11 +1,13 @@
 -- Why no device is made of an input.
 use Rattle.std.specs.Prelude.{◌≡◌, ℕ, List, ◌++◌, codes, Result, Err, ⊤}
 use Rattle.std.specs.Fmt.{decimal}
+use Rattle.hex.specs.declared.error.FromHexError.{FromHexError}
+use Rattle.hex.specs.declared.error.FromHexError.TheVariants.{InvalidHexCharacter, OddLength, InvalidStringLength, OutOfMemory}
 use Rattle.usb_model.specs.Text.{hex_byte}
 use Rattle.usb_descriptors.specs.declared.fault.DescFault.{DescFault}
 use Rattle.usb_descriptors.specs.declared.fault.DescFault.TheVariants.{Truncated, BadLength, WrongType, SharedEndpoint, BadPacketSize, TooMany}
-use Rattle.trace_descriptor.specs.declared.fault.DescriptorFault.{DescriptorFault}
-use Rattle.trace_descriptor.specs.declared.fault.DescriptorFault.TheVariants.{NotADescriptor, NotADevice, NoConfiguration, NotHex, OddDigits, Descriptor, Memory}
+use Rattle.trace_faults.specs.declared.descriptor_fault.DescriptorFault.{DescriptorFault}
+use Rattle.trace_faults.specs.declared.descriptor_fault.DescriptorFault.TheVariants.{NotADescriptor, NotADevice, NoConfiguration, NotHex, OddDigits, Descriptor, Memory}
 
 -- the fault of a configuration; offsets count from its first byte
 abbrev pub configuration_fault_text : DescFault → List ℕ
@@ -25,6 +27,13 @@ descriptor_fault_text (NotHex place) = codes "behind " ++ (decimal place ++ code
 descriptor_fault_text OddDigits = codes "the text has an odd number of digits: give two for each byte"
 descriptor_fault_text (Descriptor fault) = configuration_fault_text fault
 descriptor_fault_text Memory = codes "out of memory"
+
+-- why a text isn't hexadecimal
+abbrev pub fault_of_hex : FromHexError → DescriptorFault
+fault_of_hex (InvalidHexCharacter c place) = NotHex place
+fault_of_hex OddLength = OddDigits
+fault_of_hex InvalidStringLength = OddDigits
+fault_of_hex OutOfMemory = Memory
 
 -- the fault is that of the definition, or of memory
 abbrev pub IsDescriptorFault : {T : Type 0} → DescriptorFault → Result T DescriptorFault → Type 0

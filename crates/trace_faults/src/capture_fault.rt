@@ -1,10 +1,10 @@
 //! Why no scenario is read from a capture.
 
 ghost use Rattle.std.specs.Prelude.{◌≡◌, Some};
-ghost use Rattle.trace_recorded.specs.Faults.{capture_fault_text};
-ghost use Rattle.trace_recorded.specs.declared.capture_fault.CaptureFault.TheVariants as CaptureFault;
+ghost use Rattle.trace_faults.specs.CaptureFaults.{capture_fault_text};
+ghost use Rattle.trace_faults.specs.declared.capture_fault.CaptureFault.TheVariants as CaptureFault;
 
-use crate::described::DeviceIds;
+use crate::device_ids::DeviceIds;
 use std::alloc::AllocError;
 use std::fmt;
 use thiserror::Error;

@@ -1,9 +1,8 @@
 //! Why no device is made of an input.
 
 ghost use Rattle.std.specs.Prelude.{◌≡◌, Some};
-ghost use Rattle.trace_descriptor.specs.Faults.{configuration_fault_text, descriptor_fault_text};
-ghost use Rattle.trace_descriptor.specs.Input.{fault_of_hex};
-ghost use Rattle.trace_descriptor.specs.declared.fault.DescriptorFault.TheVariants as DescriptorFault;
+ghost use Rattle.trace_faults.specs.DescriptorFaults.{configuration_fault_text, descriptor_fault_text, fault_of_hex};
+ghost use Rattle.trace_faults.specs.declared.descriptor_fault.DescriptorFault.TheVariants as DescriptorFault;
 
 use hex::FromHexError;
 use std::alloc::AllocError;

@@ -1,0 +1,2 @@
+pub mod CaptureFaults
+pub mod DescriptorFaults
