@@ -11,7 +11,7 @@ use Rattle.usb_model.specs.declared.step.Step.{Step}
 use Rattle.usb_model.specs.declared.step.Step.TheVariants as step
 use Rattle.usb_model.specs.declared.verdict.Verdict.{Verdict}
 use Rattle.usb_model.specs.Setup.{Setup}
-use Rattle.usb_journal.specs.declared.place.Place.{Place}
+use Rattle.usb_recorder.specs.declared.place.Place.{Place}
 use Rattle.usb_journal.specs.Booked.{steps_of}
 use Rattle.usb_journal.specs.Seen.{caller_of}
 use Rattle.usb_library.specs.Calls.{Calling, Knows, ShowsEvents, ShowsPending}

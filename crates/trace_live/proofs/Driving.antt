@@ -3,7 +3,7 @@ use Rattle.std.proofs.Common.{◌≡◌, true≢false, List, [], ◌∷◌, ◌+
 use Rattle.std.proofs.lemmas.List.{map-append}
 use Rattle.usb_model.specs.declared.step.Step.{Step}
 use Rattle.usb_model.specs.Setup.{Setup}
-use Rattle.usb_journal.specs.declared.place.Place.{Place}
+use Rattle.usb_recorder.specs.declared.place.Place.{Place}
 use Rattle.usb_journal.specs.Booked.{steps_of}
 use Rattle.usb_journal.specs.Seen.{Receipted}
 use Rattle.usb_library.specs.Calls.{Calling, Makes}

@@ -16,7 +16,7 @@ use Rattle.usb_model.specs.Setup.{Setup}
 use Rattle.usb_model.specs.World.Plans.{verdict_of}
 use Rattle.usb_core.specs.Public.{called_entry}
 use Rattle.usb_journal.specs.declared.events.Events.{Events}
-use Rattle.usb_journal.specs.declared.place.Place.{Place}
+use Rattle.usb_recorder.specs.declared.place.Place.{Place}
 use Rattle.usb_journal.specs.declared.rows.Row.{Row}
 use Rattle.usb_journal.specs.Booked.{Asked, asked, entries_of, steps_of}
 use Rattle.usb_journal.specs.Seen.{Receipted}

@@ -15,7 +15,7 @@ use Rattle.usb_model.specs.Setup.{Setup}
 use Rattle.usb_model.specs.World.{World, new_world, turn}
 use Rattle.usb_model.specs.World.Journal.{journal, journal_from, run_from, world_run}
 use Rattle.usb_model.specs.World.Plans.{verdict_of}
-use Rattle.usb_journal.specs.declared.place.Place.{Place}
+use Rattle.usb_recorder.specs.declared.place.Place.{Place}
 use Rattle.usb_journal.specs.Booked.{IsRun, entries_of, steps_of}
 use Rattle.usb_journal.specs.Seen.{caller_of, places_of}
 use Rattle.usb_library.specs.Calls.{Calling, ShowsEvents}

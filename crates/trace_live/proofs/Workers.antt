@@ -11,7 +11,7 @@ use Rattle.usb_model.specs.declared.verdict.Verdict.TheVariants.{Stop}
 use Rattle.usb_model.specs.Setup.{Setup}
 use Rattle.usb_core.specs.declared.pending.Pending.{Pending}
 use Rattle.usb_journal.specs.declared.events.Events.{Events}
-use Rattle.usb_journal.specs.declared.place.Place.{Place}
+use Rattle.usb_recorder.specs.declared.place.Place.{Place}
 use Rattle.usb_journal.specs.declared.rows.Row.{Row}
 use Rattle.usb_journal.specs.Booked.{Asked, asked, asks, steps_of}
 use Rattle.usb_journal.specs.Seen.{Receipted}

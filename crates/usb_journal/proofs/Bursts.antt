@@ -13,10 +13,10 @@ use Rattle.usb_core.specs.Public.{State, burst_entries, whole_entries}
 use Rattle.usb_core.specs.declared.step_bursts.Burst.{Burst}
 use Rattle.usb_core.specs.declared.step_bursts.Whole.{Whole}
 use Rattle.usb_core.specs.StepBursts.{whole_entry}
-use Rattle.usb_journal.specs.declared.place.Place.{Place}
+use Rattle.usb_recorder.specs.declared.place.Place.{Place}
 use Rattle.usb_journal.specs.Booked.{world_where}
 use Rattle.usb_journal.specs.Entered.{DoesRow}
-use Rattle.usb_journal.specs.Records.{bytes_in}
+use Rattle.usb_recorder.specs.Records.{bytes_in}
 use Rattle.usb_journal.specs.Rows.{AreProgress, GoOn, MayStop, MayStopBehind, ends_any, is_end, is_progress}
 use Rattle.usb_journal.specs.Seen.{Positioned}
 use Rattle.usb_journal.proofs.Replies.{plain_bytes}

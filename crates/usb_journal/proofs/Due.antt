@@ -28,7 +28,7 @@ use Rattle.proof_model.proofs.Lists.Parts.{each_weaker}
 use Rattle.proof_model.proofs.Work.Each.{each-in_progress}
 use Rattle.proof_model.proofs.Work.Lines.{found_it, progress_times}
 use Rattle.proof_model.proofs.Work.StepMoves.{IsHome, home_is}
-use Rattle.usb_journal.specs.declared.place.Place.{Place}
+use Rattle.usb_recorder.specs.declared.place.Place.{Place}
 use Rattle.usb_journal.specs.declared.timer.Timer.{Timer}
 use Rattle.usb_journal.specs.Booked.{IsRun, dated, steps_of, world_where}
 use Rattle.usb_journal.specs.Timers.{by_name, expires, is_over, timers_of}

@@ -12,7 +12,7 @@ use Rattle.usb_model.specs.World.Journal.{journal, journal_from, run_from, world
 use Rattle.refine_core.specs.Steps.{TurnsInRow}
 use Rattle.usb_core.specs.Public.{ShowsWorld, State, StillCarries, TurnsWorld, takes_memory}
 use Rattle.usb_receipts.specs.Rule.{BeginsWith}
-use Rattle.usb_journal.specs.declared.place.Place.{Place}
+use Rattle.usb_recorder.specs.declared.place.Place.{Place}
 use Rattle.usb_journal.specs.declared.rows.Row.{Row}
 use Rattle.usb_journal.specs.declared.timer.Timer.{Timer}
 use Rattle.usb_journal.specs.Booked.{Asked, Booked, IsMoved, IsRun, Replays, Sees, asked, asks, entries_of, steps_of, world_where}

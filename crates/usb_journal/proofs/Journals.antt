@@ -18,7 +18,7 @@ use Rattle.usb_model.specs.World.Journal.{entries_in, is_held_elsewhere, is_unpl
 use Rattle.proof_model.proofs.Machines.Done.{is_done}
 use Rattle.proof_model.proofs.Places.Runs.{kept_new, kept_step}
 use Rattle.proof_model.proofs.Handles.Isolation.{IsEither, effect_to, is_own_step, new_machine_of, turn_blocked, turn_free, turn_to}
-use Rattle.usb_journal.specs.declared.place.Place.{Place}
+use Rattle.usb_recorder.specs.declared.place.Place.{Place}
 use Rattle.usb_journal.specs.declared.timer.Timer.{Timer}
 use Rattle.usb_journal.specs.Booked.{IsRun, dated, entries_of, steps_of, world_where}
 use Rattle.usb_journal.specs.Timers.{ended, numbered, stopped, timers_by, timers_of}

@@ -13,4 +13,3 @@ mod Expiries
 mod InRows
 mod Bursts
 mod Takings
-mod KeptPlaces

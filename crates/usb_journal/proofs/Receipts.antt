@@ -2,7 +2,7 @@
 use Rattle.std.proofs.Common.{◌≡◌, ◌==◌, ℕ, zero, suc, ◌<◌, List, [], ◌∷◌, length, get_or, Some, refl, arith, count_by, ◌+◌, ◌≤◌, ◌++◌, drop, ap, ◌∙◌, length-drop, subst}
 use Rattle.std.proofs.lemmas.Grind.{common_steps}
 use Rattle.std.specs.Prelude.{slice_get}
-use Rattle.usb_journal.specs.declared.place.Place.{Place}
+use Rattle.usb_recorder.specs.declared.place.Place.{Place}
 use Rattle.usb_receipts.specs.Rule.{Stand, claimed}
 use Rattle.usb_journal.specs.Seen.{Receipted, claims_of, receipts_from}
 

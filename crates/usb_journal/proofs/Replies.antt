@@ -27,10 +27,10 @@ use Rattle.usb_core.specs.Reads.{is_done}
 use Rattle.usb_core.specs.Steps.{kept_after}
 use Rattle.usb_core.specs.Public.{Carries, CarriesMore, Kept, State, StillCarries, TurnsWorld, called_entry, takes_memory}
 use Rattle.usb_core.specs.declared.submission.SubmitError.{SubmitError}
-use Rattle.usb_journal.specs.declared.place.Place.{Place}
+use Rattle.usb_recorder.specs.declared.place.Place.{Place}
 use Rattle.usb_journal.specs.declared.timer.Timer.{Timer}
 use Rattle.usb_journal.specs.Booked.{Replays, answer_entry, world_where}
-use Rattle.usb_journal.specs.Records.{bytes_in}
+use Rattle.usb_recorder.specs.Records.{bytes_in}
 use Rattle.usb_journal.specs.Timers.{ended, ending, numbered, stopped_if, timers_by}
 use Rattle.usb_journal.proofs.Runs.{next_is}
 

@@ -7,7 +7,7 @@ use Rattle.usb_model.specs.Setup.{Setup}
 use Rattle.usb_model.specs.World.{World, new_world, turn, world_from}
 use Rattle.usb_model.specs.World.Journal.{entries_in, journal, journal_from, world_run}
 use Rattle.usb_core.specs.Public.{ShowsWorld, State, Stays, StillCarries, TurnsWorld}
-use Rattle.usb_journal.specs.declared.place.Place.{Place}
+use Rattle.usb_recorder.specs.declared.place.Place.{Place}
 use Rattle.usb_journal.specs.declared.timer.Timer.{Timer}
 use Rattle.usb_journal.specs.Seen.{Receipted}
 use Rattle.usb_journal.specs.Booked.{Booked, IsRun, IsSame, Replays, next_entry, next_receipt, steps_of, world_where}

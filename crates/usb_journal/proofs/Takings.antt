@@ -11,7 +11,7 @@ use Rattle.usb_model.specs.World.Journal.{journal_from, run_from}
 use Rattle.usb_core.specs.Public.{Carries, CarriesOut, Kept, called_entry}
 use Rattle.usb_core.specs.declared.results.Taken.{Taken}
 use Rattle.usb_receipts.specs.Rule.{BeginsWith}
-use Rattle.usb_journal.specs.declared.place.Place.{Place}
+use Rattle.usb_recorder.specs.declared.place.Place.{Place}
 use Rattle.usb_journal.specs.declared.rows.Row.{Row}
 use Rattle.usb_journal.specs.Booked.{Booked, IsMoved, Sees, entries_of, next_entry, next_receipt, world_where}
 use Rattle.usb_journal.specs.Entered.{IsRow, StandsIn, TakesRow}

@@ -15,7 +15,7 @@ use Rattle.usb_model.specs.World.Journal.{world_run}
 use Rattle.usb_core.specs.Public.{ShowsWorld, State, Stays, StillCarries, does_something}
 use Rattle.usb_core.specs.declared.submission.SubmitError.{SubmitError}
 use Rattle.usb_journal.specs.declared.events.Events.{Events}
-use Rattle.usb_journal.specs.declared.place.Place.{Place}
+use Rattle.usb_recorder.specs.declared.place.Place.{Place}
 use Rattle.usb_journal.specs.declared.record.RecordError.{RecordError}
 use Rattle.usb_receipts.specs.Rule.{BeginsWith}
 use Rattle.usb_journal.specs.Seen.{Positioned, Receipted}

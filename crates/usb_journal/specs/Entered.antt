@@ -7,7 +7,7 @@ use Rattle.usb_model.specs.Setup.{Setup}
 use Rattle.usb_model.specs.World.Journal.{run_from}
 use Rattle.usb_core.specs.Public.{Carries, Kept, State, StillCarries, called_entry}
 use Rattle.usb_core.specs.declared.results.Taken.{Taken}
-use Rattle.usb_journal.specs.declared.place.Place.{Place}
+use Rattle.usb_recorder.specs.declared.place.Place.{Place}
 use Rattle.usb_journal.specs.Booked.{Booked, Replays, asked, asks, entries_of, world_where}
 use Rattle.usb_journal.specs.Rows.{AreKept, new_places}
 use Rattle.usb_receipts.specs.Rule.{BeginsWith}

@@ -10,7 +10,7 @@ use Rattle.usb_model.specs.World.{World, turn}
 use Rattle.usb_model.specs.World.Journal.{run_from}
 use Rattle.usb_core.specs.Public.{Kept, does_something, serves}
 use Rattle.usb_core.specs.declared.results.Taken.{Taken}
-use Rattle.usb_journal.specs.declared.place.Place.{Place}
+use Rattle.usb_recorder.specs.declared.place.Place.{Place}
 use Rattle.usb_journal.specs.declared.rows.Row.{Row}
 use Rattle.usb_journal.specs.Booked.{Booked, Sees, asked, asks, entries_of, world_where}
 use Rattle.usb_journal.specs.Seen.{Positioned}

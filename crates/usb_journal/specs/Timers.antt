@@ -11,7 +11,7 @@ use Rattle.usb_model.specs.Setup.{Setup}
 use Rattle.usb_model.specs.World.{World}
 use Rattle.usb_model.specs.World.Due.{below, deadline}
 use Rattle.usb_core.specs.Reads.{would_expire}
-use Rattle.usb_journal.specs.declared.place.Place.{Place}
+use Rattle.usb_recorder.specs.declared.place.Place.{Place}
 use Rattle.usb_journal.specs.declared.timer.Timer.{Timer}
 
 -- whether it is of this transfer

@@ -12,10 +12,8 @@ use crate::closed::Closing;
 use crate::events::Events;
 use crate::log::Log;
 use crate::naming::Naming;
-use crate::place::PlaceImage;
 use crate::position::{Past, Position};
 use crate::receipt::Receipt;
-use crate::recorder::Recorder;
 use crate::timer::Timer;
 use std::alloc::{AllocError, Global};
 use std::marker::Model;
@@ -24,6 +22,7 @@ use usb_core::{Core, Pending, Setup};
 use usb_device::Device;
 use usb_model::{DeviceNo, EpAddr};
 use usb_receipts::Keeper;
+use usb_recorder::{PlaceImage, Recorder};
 
 /// The core, the moment, and the journal of the core's steps. The journal stands in the proofs; at run time there is
 /// what the recorder keeps of it.

@@ -8,15 +8,14 @@ ghost use Rattle.usb_journal.specs.Seen.{caller_of, places_of};
 
 use crate::log::take_all;
 use crate::naming::Naming;
-use crate::place::PlaceImage;
 use crate::position::Position;
 use crate::receipt::Receipt;
-use crate::recorder::Recorder;
 use std::marker::Model;
 use std::sync::ledger::{self, Share};
 use usb_core::Core;
 use usb_device::Device;
 use usb_receipts::Keeper;
+use usb_recorder::{PlaceImage, Recorder};
 
 /// A book that is closed: no step is made any more, and positions come back.
 #[derive(Drop)]
@@ -102,7 +101,7 @@ pub struct WholeJournal {
 
 impl Model for WholeJournal {
     ghost use Rattle.std.specs.Prelude.{List};
-    ghost use Rattle.usb_journal.specs.declared.place.Place.{Place};
+    ghost use Rattle.usb_recorder.specs.declared.place.Place.{Place};
 
     ghost Value = { List Place };
 

@@ -14,14 +14,9 @@
 //! - `record.rt`: any step, with its payload
 //! - `ticks.rt`: time passes: an Expire for each transfer that is due
 //! - `timer.rt`, specs/Timers: when each transfer was submitted whose callback hasn't ended
-//! - `log.rt`, `place.rt`, `receipt.rt`, `position.rt`, specs/Seen: the journal on its log; a place, a receipt, a
-//!   caller's position
-//! - `recorder.rt`, specs/Records: what is kept at run time: a draft of the step before it is made, and then its
-//!   entry
-//! - `journal.rt`, `short.rt`, `kept.rt`, `reader.rt`, specs/Kept: the journal in memory; a place that each transfer has,
-//!   in few bytes; any place as it is kept; a place read back
+//! - `log.rt`, `receipt.rt`, `position.rt`, specs/Seen: the journal on its log; a receipt, a caller's position. What is kept of it at
+//!   run time stands in `usb_recorder`
 //! - `naming.rt`, `closed.rt`: which library a value is of; a book that is closed, and what it leaves
-//! - proofs/KeptPlaces: what a kept place stands for stays, whatever bytes come behind its own
 //! - proofs/Runs, Replies, Answers: one step more of a journal; how many bytes a reply has; what a submission is
 //!   answered
 //! - proofs/InRows, Bursts, Takings: a row of steps behind another; packets that the core serves in one burst; results
@@ -67,20 +62,14 @@
 mod book;
 mod closed;
 mod events;
-mod journal;
-mod kept;
 mod log;
 mod naming;
-mod place;
 mod position;
-mod reader;
 mod receipt;
 mod record;
-mod recorder;
 mod results;
 mod rounds;
 mod rows;
-mod short;
 mod submissions;
 mod ticks;
 mod timer;
@@ -88,12 +77,10 @@ mod timer;
 pub use book::JournaledCore;
 pub use closed::{Closed, Closing, WholeJournal};
 pub use events::Events;
-pub use journal::{Draft, Journal};
 pub use naming::Naming;
-pub use place::{Place, PlaceImage};
 pub use position::{Past, Position};
 pub use receipt::Receipt;
 pub use record::RecordError;
-pub use recorder::{Recorder, Unrecorded};
 pub use rows::{Delivered, Outgoing, Row, Served};
 pub use usb_core::{Pending, Setup, Stepped, SubmitError, Taken};
+pub use usb_recorder::{Draft, Journal, Place, PlaceImage, Recorder, Unrecorded};

@@ -3,21 +3,19 @@
 ghost use Rattle.std.specs.Prelude.{◌≡◌, ◌++◌, ◌+◌, ◌-◌, ◌^◌, ◌<◌, ◌≤◌, ◌∷◌, ℕ, [], IfOk, IfSome, OnOk, length};
 ghost use Rattle.usb_receipts.specs.Tokens.{new_keeper};
 ghost use Rattle.usb_journal.specs.Booked.{IsMoved, Sees};
-ghost use Rattle.usb_journal.specs.Records.{bytes_in, sent_by};
+ghost use Rattle.usb_recorder.specs.Records.{bytes_in, sent_by};
 ghost use Rattle.usb_receipts.specs.Rule.{BeginsWith};
 ghost use Rattle.usb_journal.specs.Seen.{claims_of, positioned};
 
-use crate::kept::sent_by;
 use crate::naming::Naming;
-use crate::place::PlaceImage;
 use crate::position::{Past, Position};
 use crate::receipt::Receipt;
-use crate::recorder::Recorder;
 use std::alloc::{AllocError, Global};
 use std::marker::{Model, PhantomData};
 use std::sync::ledger::{self, Share};
 use usb_model::{Entry, Step};
 use usb_receipts::{Image, Keeper};
+use usb_recorder::{PlaceImage, Recorder, sent_by};
 
 /// What is kept of the places, how many there are, how many positions were given, the log with its keeper, on which they all stand,
 /// and the ledger that counts the places by those who made them.

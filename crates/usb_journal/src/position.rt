@@ -3,9 +3,9 @@
 ghost use Rattle.std.specs.Prelude.{◌≡◌, length};
 
 use crate::naming::Naming;
-use crate::place::PlaceImage;
 use std::marker::{Model, PhantomData};
 use std::sync::ledger::Share;
+use usb_recorder::PlaceImage;
 
 /// The number of its bearer, which no other has; what the journal began with when the position was last moved; and which of that are
 /// the bearer's places, whose number its share of the journal's ledger counts. It has the bytes of the number alone.
@@ -55,7 +55,7 @@ pub struct Past<L: Naming> {
 /// Contracts see the places.
 impl<L: Naming> Model for Past<L> {
     ghost use Rattle.std.specs.Prelude.{◌≡◌, List, [], ◌∷◌};
-    ghost use Rattle.usb_journal.specs.declared.place.Place.{Place};
+    ghost use Rattle.usb_recorder.specs.declared.place.Place.{Place};
     ghost use Rattle.usb_journal.specs.Seen.{first_of};
 
     ghost Value = { List Place };

@@ -3,9 +3,9 @@
 ghost use Rattle.std.specs.Prelude.{◌≡◌};
 
 use crate::naming::Naming;
-use crate::place::PlaceImage;
 use std::marker::{Model, PhantomData};
 use usb_receipts::Claim;
+use usb_recorder::PlaceImage;
 
 /// What stands at a place of the journal. Contracts see the place and all that stands there; it has the bytes of the
 /// place's number alone.

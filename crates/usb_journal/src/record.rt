@@ -12,7 +12,6 @@ use crate::book::JournaledCore;
 use crate::naming::Naming;
 use crate::position::Position;
 use crate::receipt::Receipt;
-use crate::recorder::Recorder;
 use crate::submissions::enter;
 use crate::timer::stop_if;
 use std::fmt;
@@ -21,6 +20,7 @@ use usb_core::{Stepped, SubmitError, Taken};
 use usb_device::Device;
 use usb_model::{Entry, Name, Reply, Step, Verdict};
 use usb_receipts::Image;
+use usb_recorder::Recorder;
 
 /// A step that found no memory. Nothing changed, and all that was given comes back.
 #[derive(Drop, Error)]

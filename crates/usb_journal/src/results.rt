@@ -4,7 +4,7 @@ ghost use Rattle.std.specs.Prelude.{◌≡◌, ℕ, ◌+◌, ◌^◌, ◌<◌, �
 ghost use Rattle.usb_model.specs.declared.step.Step.TheVariants.{Take};
 ghost use Rattle.usb_core.specs.Steps.{first_payload};
 ghost use Rattle.usb_core.specs.Public.{Carries, CarriesOut, Kept, called_entry};
-ghost use Rattle.usb_journal.specs.Records.{bytes_in};
+ghost use Rattle.usb_recorder.specs.Records.{bytes_in};
 ghost use Rattle.usb_journal.specs.Booked.{IsMoved, IsSame, Sees, next_entry, next_receipt};
 
 use crate::book::JournaledCore;
@@ -12,11 +12,11 @@ use crate::log::Log;
 use crate::naming::Naming;
 use crate::position::Position;
 use crate::receipt::Receipt;
-use crate::recorder::Recorder;
 use std::alloc::AllocError;
 use usb_core::Taken;
 use usb_device::Device;
 use usb_model::{Entry, Reply, Step};
+use usb_recorder::Recorder;
 
 impl<L: Naming, P, D: Device, J: Recorder> JournaledCore<L, P, D, J> {
     /// The oldest result goes out to its callback (libusb 1.0, `libusb_transfer_cb_fn`), with the payload of its

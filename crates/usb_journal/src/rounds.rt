@@ -10,11 +10,11 @@ use crate::book::JournaledCore;
 use crate::naming::Naming;
 use crate::position::Position;
 use crate::receipt::Receipt;
-use crate::recorder::Recorder;
 use crate::timer::stop_if;
 use std::alloc::AllocError;
 use usb_device::Device;
 use usb_model::{DeviceNo, Entry, EpAddr, Name, Step, Verdict};
+use usb_recorder::Recorder;
 
 impl<L: Naming, P, D: Device, J: Recorder> JournaledCore<L, P, D, J> {
     /// A device answers one packet (USB 2.0, 8.5), at the next place of the journal. Where memory is wanting nothing

@@ -9,18 +9,18 @@ ghost use Rattle.usb_core.specs.Public.{Carries, Kept, ShowsWorld, StillCarries,
 ghost use Rattle.usb_receipts.specs.Rule.{BeginsWith};
 ghost use Rattle.usb_journal.specs.Booked.{IsSame, Replays, entries_of, world_where};
 ghost use Rattle.usb_journal.specs.Entered.{DoesRow, IsRow, StandsIn, TakesRow};
-ghost use Rattle.usb_journal.specs.Records.{bytes_in};
+ghost use Rattle.usb_recorder.specs.Records.{bytes_in};
 ghost use Rattle.usb_journal.specs.Rows.{AreKept, EntersRow, GoOn, MayStop, MayStopBehind, are_quiet, ends_any, is_end, is_progress, is_quiet, is_settled, new_places};
 
 use crate::book::JournaledCore;
 use crate::log::Log;
 use crate::naming::Naming;
 use crate::position::{Past, Position};
-use crate::recorder::Recorder;
 use std::alloc::AllocError;
 use usb_core::{Burst, Core, Taken};
 use usb_device::Device;
 use usb_model::{DeviceNo, EpAddr, Reply, Step};
+use usb_recorder::Recorder;
 
 /// Places in a row of a journal.
 #[derive(Clone, Copy, PartialEq, Eq, Debug)]

@@ -4,23 +4,22 @@ ghost use Rattle.std.specs.Prelude.{◌≡◌, ◌++◌, ◌∷◌, ◌+◌, ◌
 ghost use Rattle.usb_model.specs.declared.step.Step.TheVariants.{Answer, Submit};
 ghost use Rattle.usb_model.specs.declared.verdict.Verdict.TheVariants.{Again, AgainWith};
 ghost use Rattle.usb_core.specs.Public.{CarriesMore, StillCarries};
-ghost use Rattle.usb_journal.specs.Records.{bytes_in};
+ghost use Rattle.usb_recorder.specs.Records.{bytes_in};
 ghost use Rattle.usb_journal.specs.Booked.{IsMoved, IsSame, Sees, answer_entry, new_bytes_in, next_entry, next_receipt, request_in, unless_no_memory};
 
 use crate::book::JournaledCore;
 use crate::log::Log;
 use crate::naming::Naming;
-use crate::place::PlaceImage;
 use crate::position::Position;
 use crate::receipt::Receipt;
 use crate::record::RecordError;
-use crate::recorder::Recorder;
 use crate::timer::{Timer, start_again_if, start_if};
 use std::alloc::AllocError;
 use usb_core::SubmitError;
 use usb_device::Device;
 use usb_model::{Bytes, Entry, Name, Refused, Reply, Request, Step, Verdict};
 use usb_receipts::Image;
+use usb_recorder::{PlaceImage, Recorder};
 
 impl<L: Naming, P, D: Device, J: Recorder> JournaledCore<L, P, D, J> {
     /// Submits a transfer (libusb 1.0, `libusb_submit_transfer`), at the next place of the journal: its number, or why it

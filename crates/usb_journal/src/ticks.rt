@@ -16,12 +16,12 @@ use crate::log::Log;
 use crate::naming::Naming;
 use crate::position::{Past, Position};
 use crate::receipt::Receipt;
-use crate::recorder::Recorder;
 use crate::timer::Timer;
 use std::alloc::{AllocError, Global};
 use usb_core::Core;
 use usb_device::Device;
 use usb_model::{Entry, Step};
+use usb_recorder::Recorder;
 
 impl<L: Naming, P, D: Device, J: Recorder> JournaledCore<L, P, D, J> {
     /// Moves the moment on to `now`, in milliseconds, or leaves it where it is later. Then makes one Expire for each

@@ -9,7 +9,7 @@ use Rattle.usb_model.specs.declared.verdict.Verdict.TheVariants.{Stop}
 use Rattle.usb_model.specs.declared.entry.Entry.{Entry}
 use Rattle.usb_model.specs.Setup.{Setup}
 use Rattle.usb_model.specs.World.{new_world, turn, world_from}
-use Rattle.usb_journal.specs.declared.place.Place.{Place}
+use Rattle.usb_recorder.specs.declared.place.Place.{Place}
 use Rattle.usb_core.specs.Public.{does_something}
 use Rattle.usb_core.specs.declared.submission.SubmitError.{SubmitError}
 use Rattle.usb_journal.specs.Booked.{Booked, answer_entry, next_entry, next_receipt, steps_of, world_where}

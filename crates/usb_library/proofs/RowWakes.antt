@@ -12,7 +12,7 @@ use Rattle.usb_model.specs.Setup.{Setup}
 use Rattle.usb_model.specs.World.{World, new_world, turn, world_from}
 use Rattle.usb_model.specs.World.Journal.{journal_from, run_from}
 use Rattle.usb_core.specs.Public.{does_something}
-use Rattle.usb_journal.specs.declared.place.Place.{Place}
+use Rattle.usb_recorder.specs.declared.place.Place.{Place}
 use Rattle.usb_journal.specs.Booked.{entries_of, steps_of, world_where}
 use Rattle.usb_journal.specs.Rows.{are_quiet, ends_any, is_end, is_quiet, is_settled}
 use Rattle.proof_model.proofs.Handles.Runs.{world_append}

@@ -12,7 +12,7 @@ use Rattle.usb_model.specs.World.{World}
 use Rattle.usb_model.specs.World.Due.{due}
 use Rattle.usb_model.specs.World.Journal.{run_from}
 use Rattle.usb_journal.specs.declared.events.Events.{Events}
-use Rattle.usb_journal.specs.declared.place.Place.{Place}
+use Rattle.usb_recorder.specs.declared.place.Place.{Place}
 use Rattle.usb_journal.specs.declared.rows.Row.{Row}
 use Rattle.usb_core.specs.Public.{IsPending, does_something, serves}
 use Rattle.usb_core.specs.declared.pending.Pending.{Pending}

@@ -13,7 +13,7 @@ use Rattle.usb_library.specs.declared.wakes.WorkerPart.{WorkerPart}
 use Rattle.usb_library.specs.declared.wakes.WorkerPart.TheVariants.{Controller, Events}
 use Rattle.usb_library.specs.declared.wakes.Work.{Work}
 use Rattle.usb_library.specs.declared.wakes.Work.TheVariants.{Any, None, Of}
-use Rattle.usb_journal.specs.declared.place.Place.{Place}
+use Rattle.usb_recorder.specs.declared.place.Place.{Place}
 use Rattle.usb_journal.specs.Booked.{world_where}
 use Rattle.usb_library.specs.Calls.{changes}
 

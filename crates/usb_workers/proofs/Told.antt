@@ -21,7 +21,7 @@ use Rattle.usb_journal.specs.Seen.{Receipted}
 use Rattle.usb_library.specs.Calls.{Calling, Makes, MakesRow, misses, row_entries}
 use Rattle.refine_core.proofs.Counts.{count_append, count_one}
 use Rattle.std.proofs.Math.Seq.{drop-append_seam}
-use Rattle.usb_journal.specs.declared.place.Place.{Place}
+use Rattle.usb_recorder.specs.declared.place.Place.{Place}
 use Rattle.usb_journal.specs.Booked.{entries_of}
 use Rattle.usb_workers.specs.Rounds.{AreCounted, DeliversIf, DeliversRow, Does, Ends, MayAnswer, Resubmits, ServesRow, Takes, Tells, TellsAll, called_in, is_accepted, is_called, missed_by}
 use Rattle.usb_workers.specs.Rounds as R

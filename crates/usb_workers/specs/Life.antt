@@ -5,7 +5,7 @@ use Rattle.usb_model.specs.declared.reply.Returned.{Returned}
 use Rattle.usb_model.specs.declared.verdict.Verdict.{Verdict}
 use Rattle.usb_model.specs.Setup.{Setup}
 use Rattle.usb_core.specs.Public.{ShowsWorld, State}
-use Rattle.usb_journal.specs.declared.place.Place.{Place}
+use Rattle.usb_recorder.specs.declared.place.Place.{Place}
 use Rattle.usb_journal.specs.Booked.{IsRun, world_where}
 use Rattle.usb_library.specs.Calls.{Calling, IsAtRest, Knows, LacksEvents, LacksWork, ShowsEvents, ShowsPending}
 use Rattle.usb_workers.specs.Rounds.{Controls, Handles, HasEnded, Rounds}

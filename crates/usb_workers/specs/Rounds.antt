@@ -14,7 +14,7 @@ use Rattle.usb_core.specs.Public.{called_entry, does_something}
 use Rattle.usb_core.specs.declared.pending.Pending.{Pending}
 use Rattle.usb_core.specs.Callbacks.{Fits}
 use Rattle.usb_journal.specs.declared.events.Events.{Events}
-use Rattle.usb_journal.specs.declared.place.Place.{Place}
+use Rattle.usb_recorder.specs.declared.place.Place.{Place}
 use Rattle.usb_journal.specs.declared.rows.Row.{Row}
 use Rattle.usb_journal.specs.Booked.{world_where}
 use Rattle.usb_journal.specs.Seen.{Receipted}

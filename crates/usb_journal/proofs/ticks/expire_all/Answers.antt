@@ -1,7 +1,7 @@
 use Rattle.std.proofs.Common.{◌≡◌, ◌∙◌, ◌+◌, ◌-◌, ◌<◌, ◌≤◌, ◌++◌, ℕ, List, Some, [], ◌∷◌, ap, append_assoc, arith, drop, length, map, refl, subst, sym}
 use Rattle.std.proofs.lemmas.List.{length_push, map-append, take-append-le}
 use Rattle.usb_model.specs.declared.step.Step.TheVariants.{Expire}
-use Rattle.usb_journal.specs.declared.place.Place.{Place}
+use Rattle.usb_recorder.specs.declared.place.Place.{Place}
 use Rattle.usb_journal.specs.Booked.{asked, Asked}
 use Rattle.usb_journal.specs.Seen.{Receipted}
 use Rattle.usb_journal.proofs.Replies.{no_bytes_of}

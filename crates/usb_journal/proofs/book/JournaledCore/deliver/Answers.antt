@@ -2,7 +2,7 @@ use Rattle.std.proofs.Common.{arith, length, refl}
 use Rattle.usb_model.specs.declared.entry.Entry.{Entry}
 use Rattle.usb_model.specs.declared.step.Step.{Step}
 use Rattle.usb_model.specs.declared.step.Step.TheVariants.{Deliver}
-use Rattle.usb_journal.specs.declared.place.Place.{Place}
+use Rattle.usb_recorder.specs.declared.place.Place.{Place}
 use Rattle.usb_journal.proofs.Replies.{no_bytes_of, plain_timers}
 use Rattle.usb_journal.proofs.Runs.{entered}
 use Rattle.usb_journal.proofs.book.JournaledCore.deliver.Goals as goal

@@ -4,7 +4,7 @@ use Rattle.std.proofs.lemmas.List.{length-replicate}
 use Rattle.usb_model.specs.declared.step.Step.TheVariants.{Deliver}
 use Rattle.usb_model.specs.World.Journal.{run_from}
 use Rattle.usb_receipts.specs.Rule.{BeginsWith}
-use Rattle.usb_journal.specs.declared.place.Place.{Place}
+use Rattle.usb_recorder.specs.declared.place.Place.{Place}
 use Rattle.usb_journal.specs.Booked.{Booked, world_where}
 use Rattle.usb_journal.specs.Entered.{IsRow}
 use Rattle.usb_journal.specs.Rows.{EntersRow}

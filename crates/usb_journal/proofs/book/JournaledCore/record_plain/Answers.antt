@@ -1,7 +1,7 @@
 use Rattle.std.proofs.Common.{◌∙◌, ap, length, subst, sym}
 use Rattle.usb_model.specs.declared.step.Step.{Step}
 use Rattle.usb_core.specs.Public.{Carries}
-use Rattle.usb_journal.specs.declared.place.Place.{Place}
+use Rattle.usb_recorder.specs.declared.place.Place.{Place}
 use Rattle.usb_journal.specs.Booked.{Booked, next_entry}
 use Rattle.usb_journal.specs.Timers.{stopped_if}
 use Rattle.usb_journal.proofs.Replies.{no_bytes_of, plain_timers}

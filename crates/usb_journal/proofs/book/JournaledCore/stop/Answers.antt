@@ -3,7 +3,7 @@ use Rattle.usb_model.specs.declared.entry.Entry.{Entry}
 use Rattle.usb_model.specs.declared.step.Step.{Step}
 use Rattle.usb_model.specs.declared.step.Step.TheVariants.{Answer}
 use Rattle.usb_model.specs.declared.verdict.Verdict.TheVariants.{Stop}
-use Rattle.usb_journal.specs.declared.place.Place.{Place}
+use Rattle.usb_recorder.specs.declared.place.Place.{Place}
 use Rattle.usb_journal.proofs.Replies.{no_bytes_of, plain_timers}
 use Rattle.usb_journal.proofs.Runs.{entered}
 use Rattle.usb_journal.proofs.book.JournaledCore.stop.Goals as goal

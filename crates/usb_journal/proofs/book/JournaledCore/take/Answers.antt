@@ -1,7 +1,7 @@
 use Rattle.std.proofs.Common.{arith, length, option_map, refl}
 use Rattle.usb_model.specs.declared.step.Step.TheVariants.{Take}
 use Rattle.usb_core.specs.Public.{called_entry}
-use Rattle.usb_journal.specs.declared.place.Place.{Place}
+use Rattle.usb_recorder.specs.declared.place.Place.{Place}
 use Rattle.usb_journal.specs.Booked.{world_where}
 use Rattle.usb_journal.proofs.Replies.{take_timers, taken_bytes}
 use Rattle.usb_journal.proofs.Runs.{entered, same_book}

@@ -2,8 +2,8 @@
 
 ghost use Rattle.std.specs.Prelude.{◌≡◌};
 ghost use Rattle.usb_model.specs.declared.step.Step.TheVariants.{Submit};
-ghost use Rattle.usb_journal.specs.Kept.{reply_of, step_of};
-ghost use Rattle.usb_journal.specs.Records.{given_by, sent_by};
+ghost use Rattle.usb_recorder.specs.Kept.{reply_of, step_of};
+ghost use Rattle.usb_recorder.specs.Records.{given_by, sent_by};
 
 use usb_model::{
     Body, DeviceNo, EpAddr, Errand, Flags, Kind, Name, Refused, Reply, Request, Status, Step,
@@ -250,7 +250,7 @@ impl CompactReply {
 
 /// The bytes of a step. Inlined where the step is known.
 #[inline(always)]
-pub(crate) fn sent_by(step: &Step) -> &[u8]
+pub fn sent_by(step: &Step) -> &[u8]
     ensures { result.now ≡ sent_by step.now }
 {
     match step {

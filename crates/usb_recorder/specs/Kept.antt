@@ -9,15 +9,15 @@ use Rattle.usb_model.specs.declared.status.Status.{Status}
 use Rattle.usb_model.specs.declared.step.Step.{Step}
 use Rattle.usb_model.specs.declared.step.Step.TheVariants as step
 use Rattle.usb_model.specs.declared.verdict.Verdict.TheVariants as verdict
-use Rattle.usb_journal.specs.declared.kept.CompactStep.{CompactStep}
-use Rattle.usb_journal.specs.declared.kept.CompactStep.TheVariants as asked
-use Rattle.usb_journal.specs.declared.kept.CompactReply.{CompactReply}
-use Rattle.usb_journal.specs.declared.kept.CompactReply.TheVariants as replied
-use Rattle.usb_journal.specs.declared.kept.LongEntry.{LongEntry}
-use Rattle.usb_journal.specs.declared.place.Place.{Place}
-use Rattle.usb_journal.specs.declared.short.ResultTail.{ResultTail}
-use Rattle.usb_journal.specs.declared.short.PackedEntry.{PackedEntry}
-use Rattle.usb_journal.specs.declared.short.PackedEntry.TheVariants as short
+use Rattle.usb_recorder.specs.declared.kept.CompactStep.{CompactStep}
+use Rattle.usb_recorder.specs.declared.kept.CompactStep.TheVariants as asked
+use Rattle.usb_recorder.specs.declared.kept.CompactReply.{CompactReply}
+use Rattle.usb_recorder.specs.declared.kept.CompactReply.TheVariants as replied
+use Rattle.usb_recorder.specs.declared.kept.LongEntry.{LongEntry}
+use Rattle.usb_recorder.specs.declared.place.Place.{Place}
+use Rattle.usb_recorder.specs.declared.short.ResultTail.{ResultTail}
+use Rattle.usb_recorder.specs.declared.short.PackedEntry.{PackedEntry}
+use Rattle.usb_recorder.specs.declared.short.PackedEntry.TheVariants as short
 
 -- the step, with these bytes
 abbrev pub step_of : CompactStep → List ℕ → Step

@@ -1,7 +1,7 @@
 use Rattle.std.proofs.Common.{◌≡◌, ap, arith, subst, sym, vec_len}
-use Rattle.usb_journal.specs.Kept.{AreThere, Journaled}
-use Rattle.usb_journal.proofs.KeptPlaces.{there_push}
-use Rattle.usb_journal.proofs.journal.Journal.keep_short.Goals as goal
+use Rattle.usb_recorder.specs.Kept.{AreThere, Journaled}
+use Rattle.usb_recorder.proofs.KeptPlaces.{there_push}
+use Rattle.usb_recorder.proofs.journal.Journal.keep_short.Goals as goal
 
 pub invariant_of-self : goal.invariant_of-self
 invariant_of-self c =

@@ -1,9 +1,9 @@
 use Rattle.std.proofs.Common.{◌≡◌, ◌∙◌, ◌++◌, ◌+◌, ◌≤◌, ℕ, List, [], ◌∷◌, ap, arith, length, map, refl, subst, sym, vec_len}
-use Rattle.usb_journal.specs.declared.short.ResultTail.{ResultTail}
-use Rattle.usb_journal.specs.declared.short.PackedEntry.TheVariants.{Called}
-use Rattle.usb_journal.specs.Kept.{AreAmong, AreThere, Journaled, place_in, result_with}
-use Rattle.usb_journal.proofs.KeptPlaces.{among_more, among_push, result_kept, there_more, there_push, within_more}
-use Rattle.usb_journal.proofs.journal.Journal.keep_result.Goals as goal
+use Rattle.usb_recorder.specs.declared.short.ResultTail.{ResultTail}
+use Rattle.usb_recorder.specs.declared.short.PackedEntry.TheVariants.{Called}
+use Rattle.usb_recorder.specs.Kept.{AreAmong, AreThere, Journaled, place_in, result_with}
+use Rattle.usb_recorder.proofs.KeptPlaces.{among_more, among_push, result_kept, there_more, there_push, within_more}
+use Rattle.usb_recorder.proofs.journal.Journal.keep_result.Goals as goal
 
 pub invariant_of-self : goal.invariant_of-self
 invariant_of-self c =

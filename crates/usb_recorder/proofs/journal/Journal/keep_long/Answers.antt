@@ -1,9 +1,9 @@
 use Rattle.std.proofs.Common.{◌≡◌, ◌∙◌, ◌++◌, ◌+◌, ◌-◌, ◌≤◌, [], ◌∷◌, ap, arith, length, map, refl, subst, sym, vec_len}
-use Rattle.usb_journal.specs.declared.kept.LongEntry.{LongEntry}
-use Rattle.usb_journal.specs.declared.short.PackedEntry.TheVariants.{Long}
-use Rattle.usb_journal.specs.Kept.{AreThere, AreWithin, IsThere, Journaled, place_in, reply_of, step_of}
-use Rattle.usb_journal.proofs.KeptPlaces.{among_more, long_kept, there_more, there_push, within_more, within_push}
-use Rattle.usb_journal.proofs.journal.Journal.keep_long.Goals as goal
+use Rattle.usb_recorder.specs.declared.kept.LongEntry.{LongEntry}
+use Rattle.usb_recorder.specs.declared.short.PackedEntry.TheVariants.{Long}
+use Rattle.usb_recorder.specs.Kept.{AreThere, AreWithin, IsThere, Journaled, place_in, reply_of, step_of}
+use Rattle.usb_recorder.proofs.KeptPlaces.{among_more, long_kept, there_more, there_push, within_more, within_push}
+use Rattle.usb_recorder.proofs.journal.Journal.keep_long.Goals as goal
 
 pub invariant_of-self : goal.invariant_of-self
 invariant_of-self c =

@@ -4,12 +4,12 @@ use Rattle.std.proofs.lemmas.Option.{slice_get-get_or, slice_get-map, slice_get_
 use Rattle.std.proofs.lemmas.List.{drop-append-le, drop-take, drop_at, length-map, length-take-le, map-append, take-append-le, take-take, take_all, take_at}
 use Rattle.std.specs.Prelude.{IfSome}
 use Rattle.usb_model.specs.declared.status.Status.{Status}
-use Rattle.usb_journal.specs.declared.kept.LongEntry.{LongEntry}
-use Rattle.usb_journal.specs.declared.place.Place.{Place}
-use Rattle.usb_journal.specs.declared.short.ResultTail.{ResultTail}
-use Rattle.usb_journal.specs.declared.short.PackedEntry.{PackedEntry}
-use Rattle.usb_journal.specs.declared.short.PackedEntry.TheVariants as short
-use Rattle.usb_journal.specs.Kept.{AreAmong, AreThere, AreWithin, IsThere, called, found, part, place_in, place_of, reply_of, result_with, step_of}
+use Rattle.usb_recorder.specs.declared.kept.LongEntry.{LongEntry}
+use Rattle.usb_recorder.specs.declared.place.Place.{Place}
+use Rattle.usb_recorder.specs.declared.short.ResultTail.{ResultTail}
+use Rattle.usb_recorder.specs.declared.short.PackedEntry.{PackedEntry}
+use Rattle.usb_recorder.specs.declared.short.PackedEntry.TheVariants as short
+use Rattle.usb_recorder.specs.Kept.{AreAmong, AreThere, AreWithin, IsThere, called, found, part, place_in, place_of, reply_of, result_with, step_of}
 
 -- a part of the first n bytes is told by these
 part_same : (n : ℕ) (xs ys : List ℕ) (from count : ℕ) → from + count ≤ n → take n xs ≡ take n ys → part xs from count ≡ part ys from count

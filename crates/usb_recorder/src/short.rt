@@ -1,9 +1,9 @@
 //! A place that transfers make again and again, in few bytes.
 
 ghost use Rattle.std.specs.Prelude.{◌≡◌, ℕ, List, IfSome, Some};
-ghost use Rattle.usb_journal.specs.declared.kept.LongEntry.{LongEntry};
-ghost use Rattle.usb_journal.specs.declared.short.ResultTail.{ResultTail};
-ghost use Rattle.usb_journal.specs.Kept.{IsThere, place_in, step_of};
+ghost use Rattle.usb_recorder.specs.declared.kept.LongEntry.{LongEntry};
+ghost use Rattle.usb_recorder.specs.declared.short.ResultTail.{ResultTail};
+ghost use Rattle.usb_recorder.specs.Kept.{IsThere, place_in, step_of};
 
 use crate::kept::CompactStep;
 use usb_model::{DeviceNo, Entry, EpAddr, Flags, Kind, Name, Reply, Status};

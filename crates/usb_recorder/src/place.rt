@@ -29,7 +29,7 @@ pub struct PlaceImage {
 }
 
 impl Model for PlaceImage {
-    ghost use Rattle.usb_journal.specs.declared.place.Place.{Place};
+    ghost use Rattle.usb_recorder.specs.declared.place.Place.{Place};
 
     ghost Value = { Place };
 
@@ -43,7 +43,7 @@ impl Borne for PlaceImage {
 
 impl PlaceImage {
     /// What is told of a step with this entry.
-    pub(crate) fn new(step: Image<Step>, caller: u32, entry: &Entry, moment: u64) -> PlaceImage
+    pub fn new(step: Image<Step>, caller: u32, entry: &Entry, moment: u64) -> PlaceImage
         ensures { result ≡ record { step = step.value; caller = caller; entry = entry.now; moment = moment } }
     {
         PlaceImage {
@@ -55,14 +55,14 @@ impl PlaceImage {
     }
 
     /// The number of the caller.
-    pub(crate) fn caller(&self) -> u32
+    pub fn caller(&self) -> u32
         ensures { result ≡ self.now.caller }
     {
         self.caller
     }
 
     /// The moment.
-    pub(crate) fn moment(&self) -> u64
+    pub fn moment(&self) -> u64
         ensures { result ≡ self.now.moment }
     {
         self.moment

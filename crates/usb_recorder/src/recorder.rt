@@ -2,8 +2,8 @@
 
 ghost use Rattle.std.specs.Prelude.{◌≡◌, ⊤, ℕ, ◌+◌, ◌-◌, ◌≤◌, List, [], ◌∷◌, ◌++◌, OnOk, length};
 ghost use Rattle.usb_model.specs.declared.step.Step.{Step};
-ghost use Rattle.usb_journal.specs.declared.place.Place.{Place};
-ghost use Rattle.usb_journal.specs.Records.{bytes_in, sent_by};
+ghost use Rattle.usb_recorder.specs.declared.place.Place.{Place};
+ghost use Rattle.usb_recorder.specs.Records.{bytes_in, sent_by};
 
 use std::alloc::{AllocError, Global};
 use usb_model::{Entry, Step};
@@ -12,8 +12,8 @@ use usb_model::{Entry, Step};
 pub trait Recorder: Drop {
     ghost use Rattle.std.specs.Prelude.{◌≡◌, ℕ, ◌-◌, ◌≤◌, List, [], ◌∷◌, ◌++◌, OnOk, length};
     ghost use Rattle.usb_model.specs.declared.step.Step.{Step};
-    ghost use Rattle.usb_journal.specs.declared.place.Place.{Place};
-    ghost use Rattle.usb_journal.specs.Records.{bytes_in, sent_by};
+    ghost use Rattle.usb_recorder.specs.declared.place.Place.{Place};
+    ghost use Rattle.usb_recorder.specs.Records.{bytes_in, sent_by};
 
     /// What is made of a step before it is done. The recorder may keep something of it.
     type Draft: Drop;

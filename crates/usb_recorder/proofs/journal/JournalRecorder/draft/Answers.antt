@@ -1,7 +1,7 @@
 use Rattle.std.proofs.Common.{◌∙◌, ◌++◌, ◌≤◌, List, ℕ, ap, arith, length, take}
-use Rattle.usb_journal.specs.Kept.{Journaled}
-use Rattle.usb_journal.proofs.KeptPlaces.{places_same, used_same}
-use Rattle.usb_journal.proofs.journal.JournalRecorder.draft.Goals as goal
+use Rattle.usb_recorder.specs.Kept.{Journaled}
+use Rattle.usb_recorder.proofs.KeptPlaces.{places_same, used_same}
+use Rattle.usb_recorder.proofs.journal.JournalRecorder.draft.Goals as goal
 
 pub returns-clause-same : goal.returns-clause-same
 returns-clause-same c = λ journal is.

@@ -2,8 +2,8 @@
 
 ghost use Rattle.std.specs.Prelude.{◌≡◌, ◌+◌, ◌≤◌, [], IfOk, IfSome, length, slice_get};
 ghost use Rattle.usb_model.specs.declared.step.Step.TheVariants.{Answer, Submit};
-ghost use Rattle.usb_journal.specs.declared.kept.CompactStep.TheVariants.{Read};
-ghost use Rattle.usb_journal.specs.Kept.{AreAmong, AreWithin, ending_place, found, nothing, of_name, packet_place, part, place_in, place_of, reply_of, step_of, submitted_place};
+ghost use Rattle.usb_recorder.specs.declared.kept.CompactStep.TheVariants.{Read};
+ghost use Rattle.usb_recorder.specs.Kept.{AreAmong, AreWithin, ending_place, found, nothing, of_name, packet_place, part, place_in, place_of, reply_of, step_of, submitted_place};
 
 use crate::kept::{CompactReply, CompactStep, LongEntry};
 use crate::place::Place;

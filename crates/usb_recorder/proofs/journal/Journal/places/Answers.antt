@@ -1,7 +1,7 @@
 use Rattle.std.proofs.Common.{◌≤◌, arith, length, subst, sym}
-use Rattle.usb_journal.specs.Kept.{AreAmong, AreWithin}
-use Rattle.usb_journal.proofs.KeptPlaces.{among_more, within_more}
-use Rattle.usb_journal.proofs.journal.Journal.places.Goals as goal
+use Rattle.usb_recorder.specs.Kept.{AreAmong, AreWithin}
+use Rattle.usb_recorder.proofs.KeptPlaces.{among_more, within_more}
+use Rattle.usb_recorder.proofs.journal.Journal.places.Goals as goal
 
 pub place_in-requires-clause-rests : goal.place_in-requires-clause-rests
 place_in-requires-clause-rests c =

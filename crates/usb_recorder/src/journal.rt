@@ -3,12 +3,12 @@
 ghost use Rattle.std.specs.Prelude.{◌≡◌, ◌++◌, ◌+◌, ◌-◌, ◌^◌, ◌<◌, ◌≤◌, ◌==◌, ◌∷◌, ℕ, List, [], IfOk, IfSome, OnOk, length, slice_get, vec_capacity, vec_len};
 ghost use Rattle.usb_model.specs.declared.reply.Reply.TheVariants.{Called};
 ghost use Rattle.usb_model.specs.declared.step.Step.TheVariants.{Take};
-ghost use Rattle.usb_journal.specs.declared.kept.CompactStep.TheVariants.{Take as TakeAsked};
-ghost use Rattle.usb_journal.specs.declared.kept.LongEntry.{LongEntry};
-ghost use Rattle.usb_journal.specs.declared.place.Place.{Place};
-ghost use Rattle.usb_journal.specs.declared.short.ResultTail.{ResultTail};
-ghost use Rattle.usb_journal.specs.Kept.{HasRoom, IsThere, of_name, place_in, reply_of, step_of};
-ghost use Rattle.usb_journal.specs.Records.{bytes_in};
+ghost use Rattle.usb_recorder.specs.declared.kept.CompactStep.TheVariants.{Take as TakeAsked};
+ghost use Rattle.usb_recorder.specs.declared.kept.LongEntry.{LongEntry};
+ghost use Rattle.usb_recorder.specs.declared.place.Place.{Place};
+ghost use Rattle.usb_recorder.specs.declared.short.ResultTail.{ResultTail};
+ghost use Rattle.usb_recorder.specs.Kept.{HasRoom, IsThere, of_name, place_in, reply_of, step_of};
+ghost use Rattle.usb_recorder.specs.Records.{bytes_in};
 
 use crate::kept::{CompactReply, CompactStep, LongEntry, given_by, sent_by};
 use crate::place::Place;
@@ -44,7 +44,7 @@ pub struct Draft {
 /// Contracts see the places. Behind the bytes of these stand those of a step that is drafted.
 impl Model for Journal {
     ghost use Rattle.std.specs.Prelude.{◌+◌, ◌≤◌, drop, map, vec_capacity, vec_len};
-    ghost use Rattle.usb_journal.specs.Kept.{AreAmong, AreThere, AreWithin, Journaled, place_in};
+    ghost use Rattle.usb_recorder.specs.Kept.{AreAmong, AreThere, AreWithin, Journaled, place_in};
 
     ghost Value = { Journaled };
 
@@ -238,7 +238,7 @@ fn result_in<'a>(asked: &CompactStep, entry: &'a Entry) -> Option<&'a Returned>
 
 impl Recorder for Journal {
     ghost use Rattle.std.specs.Prelude.{◌≡◌, ◌+◌, ◌≤◌};
-    ghost use Rattle.usb_journal.specs.Kept.{HasRoom, step_of};
+    ghost use Rattle.usb_recorder.specs.Kept.{HasRoom, step_of};
 
     type Draft = Draft;
 
