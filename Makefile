@@ -4,7 +4,8 @@
 # refuses that. `make doc` writes doc/index.html, the public items of all crates with their contracts. `make c` builds the core
 # for C, proved, and tries it: bin/libtirnouch_core.a and .so, with c/include/tirnouch_core.h; `make bench_c` measures it. `make c-usb`
 # builds libusb's own interface over it, bin/libusb-1.0.so.0 and .a; `make c-try` the same unproved, in two minutes; `make c-test` tries it, and `make c-abi` compares the header with libusb's.
-# `make hostile` tries the programs in hostile ways, some minutes; HOSTILE has options of tools/hostile, or parts.
+# `make hostile` tries the programs in hostile ways, some minutes; HOSTILE has options of tools/hostile, or parts. `make
+# hostile-sanitized` tries broken texts over a build of usbtrace with the address sanitizer.
 # `make captures` tries captures on tshark and on libusb over umockdev, some minutes; CAPTURES has options of tools/captures, or parts.
 
 SCENARIO = rows/cancel_amid_transfer.in
@@ -164,6 +165,11 @@ hostile:
 	@tools/program.py state
 	@tools/program.py try check_library check_random
 	@python3 tools/hostile $(HOSTILE)
+
+.PHONY: hostile-sanitized
+hostile-sanitized:
+	@tools/program.py sanitized
+	@python3 tools/hostile --program bin/usbtrace.sanitized $(or $(HOSTILE),random damaged descriptors streams --count 200)
 
 # Runs as captures and captures as scenarios, tried by tshark, and by libusb over umockdev: docs/CAPTURES.md.
 captures:

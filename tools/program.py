@@ -2,6 +2,8 @@
 """Crates that people use, built into bin/: the program usbtrace as bin/usbtrace, so that each scenario takes milliseconds.
 
     tools/program.py try [NAME ..]    builds usbtrace unproved, or other programs, or tirnouch_c, where their files changed: a minute or two each
+    tools/program.py sanitized [NAME ..]  builds usbtrace, or other programs, as bin/NAME.sanitized, with the address sanitizer: it finds more
+                                      than the checks of an unproved build, is hundreds of times slower, and can't run in little memory
     tools/program.py build            builds it proved, as the gate does, crate beside crate: what isn't kept on this machine is proved
     tools/program.py build NAME ..    the same of other crates: a program as bin/NAME, a static library as bin/libNAME.a
     tools/program.py keep             takes what the gate has just proved and built: usbtrace, check_library and check_random; and notes the
@@ -9,7 +11,7 @@
     tools/program.py state            says which usbtrace stands there, on standard error
     tools/program.py state NAME       how another crate was built that stands there, in a word: proved, unproved, trusted, or none
 
-An unproved build has the same code with checks: it stops at an index out of bounds or an overflow. TRUST=1 takes them out of
+An unproved build has the same code with checks: it stops at an index out of bounds or an overflow, and says so. TRUST=1 takes them out of
 an unproved tirnouch_c, which is `trusted` then: the compiler takes for granted that none can fail."""
 import hashlib
 import os
@@ -33,7 +35,9 @@ KEPT = ("usbtrace", "check_library", "check_random")
 OVER_THE_GATE = ("tirnouch_c",)
 # The kit: the folder above that of `rt`.
 KIT = pathlib.Path(shutil.which("rt") or "rt").resolve().parent.parent
-# Words with which a run of a program is short, by which it is built unproved; of others, without words.
+# What the name of a build with the address sanitizer ends in.
+SANITIZED = ".sanitized"
+# Words with which a run of a program is short, by which it is built with the sanitizer; of others, without words.
 SHORT = {"usbtrace": ("run",), "check_library": ("refusals",), "check_random": ("refusals", "1")}
 
 
@@ -49,24 +53,24 @@ def sum_of_files(name):
     return made.hexdigest()
 
 
-def place(name):
+def place(name, kind=""):
     """Where a crate's build goes, and where it is noted how it was built: a word, and the sum of its files."""
-    built = BIN / (f"lib{name}.a" if crate_graph.is_static(name) else name)
+    built = BIN / (f"lib{name}.a" if crate_graph.is_static(name) else f"{name}{kind}")
     return built, BIN / f"{built.name}.state"
 
 
-def state(name):
+def state(name, kind=""):
     """How the build that stands there was made, if it is that of today's files."""
-    built, noted = place(name)
+    built, noted = place(name, kind)
     if not built.is_file() or not noted.is_file():
         return None
     how, _, made_of = noted.read_text().partition(" ")
     return how if made_of.strip() == sum_of_files(name) else None
 
 
-def keep(name, file, how, made_of):
+def keep(name, file, how, made_of, kind=""):
     """Puts a build in its place, whole or not at all."""
-    built, noted = place(name)
+    built, noted = place(name, kind)
     BIN.mkdir(exist_ok=True)
     new = BIN / f"{built.name}.new"
     shutil.copyfile(file, new)
@@ -85,7 +89,7 @@ def build_unproved(name):
     with tempfile.TemporaryDirectory(prefix=f"{name}-") as folder:
         folder = pathlib.Path(folder)
         try:
-            built = unproved_library(name, folder, how) if static else unproved_program(name, folder)
+            built = unproved_library(name, folder, how) if static else unproved.build_program(copy_of(name, folder), folder, KIT)
         except unproved.NotBuilt as why:
             print(f"{name} isn't built: {why}", file=sys.stderr)
             return 1
@@ -93,7 +97,25 @@ def build_unproved(name):
     return 0
 
 
-def unproved_program(name, folder):
+def build_sanitized(name):
+    """A program with the address sanitizer, where one isn't there already."""
+    if crate_graph.is_static(name):
+        print(f"{name} isn't built: only programs are built with the sanitizer", file=sys.stderr)
+        return 1
+    if state(name, SANITIZED) == "sanitized":
+        return 0
+    made_of = sum_of_files(name)
+    with tempfile.TemporaryDirectory(prefix=f"{name}-") as folder:
+        try:
+            built = sanitized_program(name, pathlib.Path(folder))
+        except unproved.NotBuilt as why:
+            print(f"{name} isn't built: {why}", file=sys.stderr)
+            return 1
+        keep(name, built, "sanitized", made_of, SANITIZED)
+    return 0
+
+
+def sanitized_program(name, folder):
     """The program that `rt try` makes and runs."""
     watch = unproved.Watch(folder, "program")
     watch.start()
@@ -111,9 +133,13 @@ def unproved_library(name, folder, how):
     """The static library, from a copy of its crates."""
     if name != "tirnouch_c":
         raise unproved.NotBuilt("of the static libraries only tirnouch_c is built unproved")
-    repository = folder / "repository"
-    copy_below(name, repository, set())
-    return unproved.build(repository / "crates" / name, folder, KIT, how == "trusted")
+    return unproved.build(copy_of(name, folder), folder, KIT, how == "trusted")
+
+
+def copy_of(name, folder):
+    """A crate in a copy of its own, with those that it stands on."""
+    copy_below(name, folder / "repository", set())
+    return folder / "repository" / "crates" / name
 
 
 def copy_below(name, folder, leaves_out):
@@ -239,7 +265,7 @@ def main(words):
         return status
     if words == ["state"]:
         return tell()
-    if word not in ("try", "build", "state"):
+    if word not in ("try", "sanitized", "build", "state"):
         print(__doc__)
         return 2
     strange = [it for it in names if it not in crate_graph.lines()]
@@ -249,7 +275,7 @@ def main(words):
     if word == "state":
         print("\n".join(state(it) or "none" for it in names))
         return 0
-    return each(build_unproved if word == "try" else build, names or ["usbtrace"])
+    return each({"try": build_unproved, "sanitized": build_sanitized, "build": build}[word], names or ["usbtrace"])
 
 
 sys.exit(main(sys.argv[1:]))

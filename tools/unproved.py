@@ -1,11 +1,12 @@
-"""The core for C without a proof: a static library of the exports of tirnouch_c in a minute or so, built from nothing.
+"""Builds without a proof, in a minute or two from nothing: a program, and the core for C as a static library.
 
-`rt try` compiles programs alone, so a program is written that calls each export. The LLVM module that `rt try` makes of it is
-taken before it goes away; the exports get C's names there, and clang compiles it once more, as a library.
+The LLVM module that `rt try` makes of a program is taken before it goes away, and compiled without the address sanitizer, in parts side by
+side (module_parts.py). `rt try` compiles programs alone, so for the library a program is written that calls each export of tirnouch_c; the
+exports get C's names in the module.
 
-The build has checks that the proved one has no need of: alignment, overflow, casts, values that can't be. Where one fails,
-the program ends and says so (c/unproved.c). With `trust` they are taken out, as they are in the proved build, and the compiler
-takes for granted that none can fail."""
+A build has checks that the proved one has no need of: alignment, overflow, casts, values that can't be. Where one fails,
+the program ends and says so (CHECK_FAILED; of the library c/unproved.c). With `trust` they are taken out of the library, as they are in the
+proved build, and the compiler takes for granted that none can fail."""
 import os
 import pathlib
 import re
@@ -16,6 +17,7 @@ import threading
 import time
 
 import c_header
+import module_parts
 
 TARGET = "--target=x86_64-unknown-linux-gnu"
 # How often, in seconds, the folder of a build is looked at: what is made there goes away with the build.
@@ -57,8 +59,22 @@ fn main(rt: HostRuntime) -> io::Result<()> {{
 """
 
 
+# What a program does where a check fails.
+CHECK_FAILED = """\
+@checks.sentence = private constant [{size} x i8] c"{sentence}"
+define internal void @rattle_check_failed(ptr %check) cold noreturn nounwind {{
+  %told = call i32 (i32, ptr, ...) @dprintf(i32 2, ptr @checks.sentence, ptr %check)
+  call void @abort()
+  unreachable
+}}
+"""
+SENTENCE = "{name}: a check failed in this unproved build: %s. The program is at fault, not its input: please report it, with the input\n\0"
+# What a definition of that calls, where the module doesn't declare it.
+DECLARED = {"dprintf": "declare i32 @dprintf(i32, ptr, ...)", "abort": "declare void @abort()"}
+
+
 class NotBuilt(Exception):
-    """Why there is no library, for a person."""
+    """Why there is no build, for a person."""
 
 
 class Watch(threading.Thread):
@@ -148,7 +164,7 @@ def module_of(crate, folder):
             end_group(build)
     if module is None:
         sys.stderr.write(log.read_text(errors="replace"))
-        raise NotBuilt("rt try made no module of tirnouch_c: see above")
+        raise NotBuilt(f"rt try made no module of {crate.name}: see above")
     return module
 
 
@@ -161,16 +177,28 @@ def end_group(process):
     process.wait()
 
 
+def without_sanitizer(text):
+    """The text of a module that the compiler adds no checks to."""
+    return text.replace(" sanitize_address", "").replace(' "frame-pointer"="all"', "").replace("= { }", "= { nounwind }")
+
+
 def as_library(text, trust):
     """The text of a module with the exports under C's names, and the program's own `main` hidden, for the linker to drop."""
     for name in set(re.findall(r'@"(tirnouch_c::(?:exports|questions)::tirnouch_\w+)"', text)):
         text = text.replace(f'@"{name}"', f"@{name.rsplit('::', 1)[1]}")
     text = re.sub(r"^define internal ([^\n]*@tirnouch_\w+\()", r"define \1", text, flags=re.M)
     text = re.sub(r"^define ([^\n]*@main\()", r"define internal \1", text, flags=re.M)
-    text = text.replace(" sanitize_address", "").replace(' "frame-pointer"="all"', "").replace("= { }", "= { nounwind }")
     if trust:
         return text.replace("  call void @llvm.trap()\n", "")
-    return tell_checks(text)
+    return tell_checks(text) + "declare void @rattle_check_failed(ptr) cold noreturn nounwind\n"
+
+
+def as_program(text, name):
+    """The text of a module whose checks say that they failed, and end the program."""
+    sentence = SENTENCE.format(name=name).replace("\n", "\\0A").replace("\0", "\\00")
+    told = CHECK_FAILED.format(size=len(SENTENCE.format(name=name)), sentence=sentence)
+    lacking = "".join(f"{line}\n" for it, line in DECLARED.items() if f"@{it}(" not in text)
+    return f"{tell_checks(text)}{told}{lacking}"
 
 
 def tell_checks(text):
@@ -181,18 +209,39 @@ def tell_checks(text):
     for name in names:
         checks = checks.replace("  call void @llvm.trap()\n", f'  call void @rattle_check_failed(ptr @"checks.{name}")\n', 1)
     told = "".join(f'@"checks.{name}" = private constant [{len(name) + 1} x i8] c"{name}\\00"\n' for name in names)
-    return body + told + "declare void @rattle_check_failed(ptr) cold noreturn nounwind\n\n" + checks
+    return body + told + checks
+
+
+def text_of(module, folder, clang):
+    """The text of a module, without the sanitizer."""
+    text = folder / "module.ll"
+    subprocess.run([clang, TARGET, "-S", "-emit-llvm", "-x", "ir", module, "-o", text, "-O0", "-Xclang", "-disable-llvm-passes"], check=True)
+    return without_sanitizer(text.read_text())
+
+
+def objects(text, folder, clang, level):
+    """The objects of a module's text."""
+    words = [clang, TARGET, "-march=x86-64", level, "-fPIC", "-ffunction-sections", "-fdata-sections"]
+    return module_parts.compiled(text, folder, words)
 
 
 def build(crate, folder, kit, trust):
     """The static library of a copy of tirnouch_c, made below a folder: its path. The copy is changed."""
-    clang, text, made = kit / "toolchain" / "bin" / "clang", folder / "module.ll", folder / "module.o"
+    clang, library = kit / "toolchain" / "bin" / "clang", folder / "libtirnouch_c.a"
     make_program(crate)
-    module = module_of(crate, folder)
-    subprocess.run([clang, TARGET, "-S", "-emit-llvm", "-x", "ir", module, "-o", text, "-O0", "-Xclang", "-disable-llvm-passes"], check=True)
-    text.write_text(as_library(text.read_text(), trust))
-    words = [clang, TARGET, "-march=x86-64", "-O3", "-fPIC", "-ffunction-sections", "-fdata-sections", "-c", "-x", "ir", text, "-o", made]
-    subprocess.run(words, check=True)
-    library = folder / "libtirnouch_c.a"
-    subprocess.run([kit / "toolchain" / "bin" / "llvm-ar", "rcs", library, made], check=True)
+    made = objects(as_library(text_of(module_of(crate, folder), folder, clang), trust), folder, clang, "-O3")
+    subprocess.run([kit / "toolchain" / "bin" / "llvm-ar", "rcs", library, *made], check=True)
     return library
+
+
+def build_program(crate, folder, kit):
+    """The program of a crate, made below a folder: its path."""
+    clang, libraries, program = kit / "toolchain" / "bin" / "clang", kit / "toolchain" / "lib", folder / crate.name
+    made = objects(as_program(text_of(module_of(crate, folder), folder, clang), crate.name), folder, clang, "-O2")
+    words = [kit / "toolchain" / "bin" / "ld.lld", "-pie", "--gc-sections", "-dynamic-linker", "/lib64/ld-linux-x86-64.so.2", "-o", program]
+    words += [*(libraries / it for it in ("Scrt1.o", "crti.o", "crtbeginS.o")), *made]
+    words += [*(kit / "c" / it for it in ("libos_c.a", "liblibc_c.a")), "-L", libraries, "--as-needed"]
+    words += [*(f"-l:{it}" for it in ("libc.so.6", "libm.so.6", "libgcc_s.so.1", "libc_nonshared.a", "libgcc.a"))]
+    words += [*(libraries / it for it in ("crtendS.o", "crtn.o"))]
+    subprocess.run(words, check=True)
+    return program
