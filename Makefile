@@ -1,4 +1,5 @@
 # `make run` builds the program unproved, and shows the README's example; `make build` proves it; `make test` is the gate.
+# `make libraries` gives a clone what is proved already, so that tools/prove begins at once.
 # `make fmt` lays all files out, which the gate asks for; `make bench` prints nanoseconds, `make bench_threads` those of
 # threads; `make wrong_bodies` tries all those of which the gate tries a few; `make plant` makes definitions wrong, and says what
 # refuses that. `make doc` writes doc/index.html, the public items of all crates with their contracts. `make c` builds the core
@@ -12,7 +13,7 @@ SCENARIO = rows/cancel_amid_transfer.in
 
 KIT = $(shell dirname $$(dirname $$(readlink -f $$(command -v rt))))
 
-.PHONY: run build test fmt doc bench bench_threads c c-usb c-test c-abi bench-usb bench_c captures wrong_bodies plant always
+.PHONY: run build test libraries fmt doc bench bench_threads c c-usb c-test c-abi bench-usb bench_c captures wrong_bodies plant always
 
 run:
 	@tools/progress.py timed run -- tools/program.py try
@@ -36,6 +37,10 @@ test:
 	@tools/pictures.py check
 	@tools/scenarios.py check
 	@python3 tools/hostile gate
+
+# Gives this clone the libraries that gates proved on this machine, or those of FROM: a clone, or a file of `tools/libraries.py pack`.
+libraries:
+	@tools/libraries.py take $(FROM)
 
 fmt:
 	@for crate in crates/*; do (cd $$crate && rt fmt); done

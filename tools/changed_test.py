@@ -3,6 +3,7 @@
 import importlib.machinery
 import importlib.util
 import pathlib
+import re
 import subprocess
 import sys
 import unittest
@@ -63,9 +64,13 @@ class Changes(unittest.TestCase):
 
     def test_what_is_printed(self) -> None:
         told = changed.lines(changed.trials(["crates/usb_living/src/living.rt"]))
-        self.assertRegex(told[0], r"^prove 3 crates, some \d+ processor minutes; these differ: usb_living$")
-        self.assertEqual(told[1], "    tools/prove usb_living tirnouch_c example_flash")
-        self.assertIn("    tools/wrong_bodies.py try usb_living", told)
+        self.assertRegex(told[0], r"^prove 3 crates; these differ: usb_living$")
+        stay, change = (re.fullmatch(rf"    if {which}: some (\d+) processor minutes, (\d+) by the clock of \d+ processors?", line)
+                        for which, line in (("contracts stay", told[1]), ("they change", told[2])))
+        self.assertLess(int(stay[1]), int(change[1]), "over kept work a body costs less than from nothing")
+        self.assertLessEqual(int(change[2]), int(change[1]), "several crates go side by side")
+        self.assertEqual(told[3], "    tools/prove --since HEAD")
+        self.assertIn("    tools/wrong_bodies.py together usb_living", told)
         self.assertIn("    make c-test", told)
 
     def test_each_crate_that_has_words_is_there(self) -> None:
@@ -76,6 +81,11 @@ class Changes(unittest.TestCase):
 
 class Revisions(unittest.TestCase):
     """The words of the command."""
+
+    def test_who_reads_a_line_alone_is_no_error(self) -> None:
+        ran = subprocess.run(f"set -o pipefail; {ROOT}/tools/changed HEAD~30 | head -1", shell=True, executable="/bin/bash", capture_output=True, text=True)
+        self.assertEqual(ran.stderr, "")
+        self.assertEqual(len(ran.stdout.splitlines()), 1)
 
     def test_a_revision_that_is_none_is_told(self) -> None:
         ran = subprocess.run([ROOT / "tools" / "changed", "no-such-revision"], capture_output=True, text=True)

@@ -1,8 +1,16 @@
-"""What the kit's command `rt` can do: some kits have an `rt ci NAME ..`, which keeps what it proved; in others `rt ci` takes no names, and
-proves all from nothing each time."""
+"""What the kit's command `rt` can do, and its code: some kits have an `rt ci NAME ..`, which keeps what it proved; in others `rt ci` takes no
+names, and proves all from nothing each time."""
+import contextlib
 import functools
+import importlib.machinery
+import importlib.util
+import io
+import pathlib
 import re
+import shutil
 import subprocess
+import sys
+from typing import Any, Dict
 
 
 @functools.lru_cache(maxsize=None)
@@ -10,3 +18,25 @@ def proves_by_name() -> bool:
     """Whether `rt ci` takes names."""
     ran = subprocess.run(["rt", "help"], capture_output=True, text=True, errors="replace")
     return re.search(r"^\s*rt ci \[?NAME", ran.stdout + ran.stderr, re.MULTILINE) is not None
+
+
+@functools.lru_cache(maxsize=None)
+def code() -> Any:
+    """The code of `rt`, which knows a crate's stamp, what earlier runs kept, and the prover's words. Its `rtlib` checks and builds crates; what
+    other clones on this machine keep is taken where it serves."""
+    path = pathlib.Path(shutil.which("rt") or "rt").resolve()
+    loader = importlib.machinery.SourceFileLoader("rt", str(path))
+    module = importlib.util.module_from_spec(importlib.util.spec_from_loader("rt", loader))
+    was, sys.dont_write_bytecode = sys.dont_write_bytecode, True
+    loader.exec_module(module)
+    sys.dont_write_bytecode = was
+    module.share_work(True)
+    module.rtlib.guarded()
+    return module
+
+
+def crates(root: pathlib.Path) -> Dict[str, Any]:
+    """The crates of a checkout as `rt` has them, lowest first."""
+    with contextlib.chdir(root), contextlib.redirect_stdout(io.StringIO()):
+        found = {it.name: it for it in code().rtlib.crates_below(str(root))}
+    return dict(sorted(found.items(), key=lambda it: len(it[1].below())))

@@ -48,8 +48,7 @@ class Proofs:
         self.names, self.meter, self.done = names, meter, set()
         self.uses, self.start = crate_graph.uses(), time.time()
         before = times.crates()
-        middle = sorted(sum(it.values()) for it in before.values())[len(before) // 2] if before else 1.0
-        self.cost: Dict[str, float] = {name: sum(before[name].values()) if name in before else middle for name in names}
+        self.cost: Dict[str, float] = {name: times.cost(before.get(name, {})) for name in names}
 
     def read(self, line: str) -> None:
         found = STOOD.match(line)

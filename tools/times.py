@@ -5,9 +5,10 @@
     tools/times.py check      says whether it is current; the gate asks it
     tools/times.py take       puts what this machine measured into tools/times.json, and writes the page
 
-tools/times.json has the processor minutes of each crate, by proof, tests and wrong bodies, and the seconds by the clock of each command,
-with the day and the machine. A machine's own measures are kept in its cache folder, by each run that tools/progress.py watches; they
-are what an estimate is made from, and the file where there are none."""
+tools/times.json has the processor minutes of each crate, by proof, tests and wrong bodies, the minutes of a proof that went on over kept work
+(`again`, by tools/prove), and the seconds by the clock of each command, with the day and the machine. A machine's own measures are kept in its
+cache folder, by tools/prove and by each run that tools/progress.py watches; they are what an estimate is made from, and the file where there
+are none."""
 import datetime
 import json
 import os
@@ -32,6 +33,9 @@ COMMANDS = {
     "test": "is the gate: proves every crate, tries wrong bodies, tests and programs",
     "c-test": "tries the library for C: scenes, threads, sanitizers",
 }
+# What a crate that wasn't measured counts as, in minutes; and what one costs that is proved over kept work, where that wasn't measured: it
+# reads the libraries below, and the rest is a small share.
+UNMEASURED, AGAIN_LEAST, AGAIN_SHARE = 1.0, 0.15, 0.05
 # For how many processors it is told how long a proof takes.
 PROCESSORS = (2, 4)
 # The crate that a command proves, with those below it; all crates where it is None.
@@ -55,9 +59,24 @@ def read(path: pathlib.Path) -> dict:
     return {"crates": {}, "commands": {}, **(found if isinstance(found, dict) else {})}
 
 
+def merged(before: Crates, here: Crates) -> Crates:
+    """Both, and of what both have the later one."""
+    return {name: {**before.get(name, {}), **here.get(name, {})} for name in {**before, **here}}
+
+
 def crates() -> Crates:
-    """The processor minutes of each crate: this machine's where it has measured them."""
-    return {**read(FILE)["crates"], **read(cache())["crates"]}
+    """The minutes of each crate: this machine's where it has measured them."""
+    return merged(read(FILE)["crates"], read(cache())["crates"])
+
+
+def cost(minutes: Dict[str, float]) -> float:
+    """What a crate costs the gate, from nothing: a crate that nobody measured counts as a small one."""
+    return sum(minutes.get(kind, 0.0) for kind in KINDS) or UNMEASURED
+
+
+def again(minutes: Dict[str, float]) -> float:
+    """What a crate costs whose own contracts and those below stay, over what was kept: as it was measured, or a share of its proof."""
+    return minutes.get("again") or AGAIN_LEAST + AGAIN_SHARE * minutes.get("proof", UNMEASURED)
 
 
 def seconds(command: str) -> Optional[float]:
@@ -81,8 +100,9 @@ def keep(measured: Optional[Crates] = None, command: str = "", took: float = 0.0
         pass
 
 
-def chain(names: List[str], uses: Dict[str, List[str]], cost: Dict[str, float]) -> float:
-    """The minutes of the dearest chain among these crates, each of which waits for those below it."""
+def chain(names: List[str], uses: Dict[str, List[str]], cost: Dict[str, float], behind: Optional[Dict[str, float]] = None) -> float:
+    """The minutes of the dearest chain among these crates, each of which waits for those below it; `behind` is what comes behind a crate's
+    proof, its tests, for which no other waits."""
     among, longest = set(names), {}
 
     def of(name: str) -> float:
@@ -90,7 +110,12 @@ def chain(names: List[str], uses: Dict[str, List[str]], cost: Dict[str, float]) 
             longest[name] = cost.get(name, 0.0) + max((of(it) for it in uses[name] if it in among), default=0.0)
         return longest[name]
 
-    return max(map(of, names), default=0.0)
+    return max((of(it) + (behind or {}).get(it, 0.0) for it in names), default=0.0)
+
+
+def least_clock(minutes: float, longest: float, processors: int) -> float:
+    """The least minutes by the clock of so much work with such a chain."""
+    return max(minutes / processors, longest)
 
 
 def clock(span: float) -> str:
@@ -104,8 +129,9 @@ def page() -> str:
     """docs/TIMES.md"""
     known, uses = read(FILE), known_uses()
     table: Crates = known["crates"]
-    cost = {name: sum(it.values()) for name, it in table.items()}
-    proof = {name: it.get("proof", 0.0) for name, it in table.items()}
+    costs_all = {name: cost(table.get(name, {})) for name in uses}
+    proof = {name: table.get(name, {}).get("proof") or UNMEASURED for name in uses}
+    tests = {name: it.get("tests", 0.0) for name, it in table.items()}
     out = [
         "# How long it takes",
         "",
@@ -120,20 +146,22 @@ def page() -> str:
         span, spent = known["commands"].get(command), ""
         took = clock(span) if span else "not measured"
         if command in PROVES:
-            names, costs = below(PROVES[command]), cost if command == "test" else proof
-            minutes, longest = sum(costs.get(it, 0.0) for it in names), chain(names, uses, proof)
-            took, spent = " or ".join(f"{max(minutes / it, longest):.0f} minutes of {it}" for it in PROCESSORS), f"{minutes:.0f}"
+            names, is_gate = below(PROVES[command]), command == "test"
+            minutes = sum((costs_all if is_gate else proof)[it] for it in names)
+            longest = chain(names, uses, proof, tests if is_gate else None)
+            took = " or ".join(f"{least_clock(minutes, longest, it):.0f} minutes of {it}" for it in PROCESSORS)
+            spent = f"{minutes:.0f}"
         out.append(f"| `make {command}` | {took} | {spent} | {does} |")
     unmeasured = [f"`{name}`" for name in uses if not table.get(name, {}).get("proof")]
     out += [
         "",
         "For a command that proves crates these are the least minutes on two and on four processors, computed from the minutes of the",
-        "crates. With other work on the machine, or on a slower one, a proof takes twice its processor time. What was built is kept, so a",
-        "second run of the others, except `make c-test`, takes no time. What was proved is kept by kits whose `rt ci` takes names: with them a",
-        "second `make test` takes some minutes, for its tests and programs, and with others as long as the first. `make c-test` comes behind",
-        "`make c-usb`, which behind `make test` proves `tirnouch_c` alone.",
+        "crates, with tests behind the proof of their crate. With other work on the machine, or on a slower one, a proof takes twice its",
+        "processor time. What was built is kept, so a second run of the others, except `make c-test`, takes no time. What was proved is kept by",
+        "kits whose `rt ci` takes names: with them a second `make test` takes some minutes, for its tests and programs, and with others as long",
+        "as the first. `make c-test` comes behind `make c-usb`, which behind `make test` proves `tirnouch_c` alone.",
         "`tools/changed` adds up the minutes of what a change has to try ([CONTRIBUTING.md](CONTRIBUTING.md#only-what-changed)).",
-        *([""] + textwrap.wrap(f"Proofs that weren't measured, and count as nothing: {', '.join(unmeasured)}.", 138) if unmeasured else []),
+        *([""] + textwrap.wrap(f"Proofs that weren't measured, and count as a minute each: {', '.join(unmeasured)}.", 138) if unmeasured else []),
         "",
         "## Proofs, crate by crate",
         "",
@@ -142,8 +170,8 @@ def page() -> str:
         "| crate | proof | tests | wrong bodies |",
         "|---|---|---|---|",
     ]
-    for name in sorted(table, key=lambda it: -cost[it]):
-        if cost[name] >= 1 and name in uses:
+    for name in sorted(set(table) & set(uses), key=lambda it: (-costs_all[it], it)):
+        if costs_all[name] >= 1 and any(table[name].get(kind) for kind in KINDS):
             out.append(f"| `{name}` | " + " | ".join(f"{table[name][kind]:.1f}" if table[name].get(kind) else "" for kind in KINDS) + " |")
     return "\n".join(out) + "\n"
 
@@ -151,9 +179,7 @@ def page() -> str:
 def take() -> None:
     """Puts this machine's measures into the file. Crates that are gone are dropped."""
     known, here, uses = read(FILE), read(cache()), known_uses()
-    for crate, minutes in here["crates"].items():
-        known["crates"][crate] = minutes
-    known["crates"] = {name: it for name, it in known["crates"].items() if name in uses}
+    known["crates"] = {name: it for name, it in merged(known["crates"], here["crates"]).items() if name in uses}
     known["commands"].update(here["commands"])
     known["day"] = datetime.date.today().isoformat()
     known["machine"] = f"{os.cpu_count()} processors ({platform.machine()})"
