@@ -3,7 +3,8 @@
 # `make fmt` lays all files out, which the gate asks for; `make bench` prints nanoseconds, `make bench_threads` those of
 # threads; `make wrong_bodies` tries all those of which the gate tries a few; `make plant` makes definitions wrong, and says what
 # refuses that. `make doc` writes doc/index.html, the public items of all crates with their contracts. `make c` builds the core
-# for C, proved, and tries it: bin/libtirnouch_core.a and .so, with c/include/tirnouch_core.h; `make bench_c` measures it. `make c-usb`
+# for C, proved, and tries it: bin/libtirnouch_core.a and .so, with c/include/tirnouch_core.h; `make bench_c` measures it, `make
+# bench-ir` counts instructions, and fails where a row takes more than at the last landing. `make c-usb`
 # builds libusb's own interface over it, bin/libusb-1.0.so.0 and .a; `make c-try` the same unproved, in two minutes; `make c-test` tries it, and `make c-abi` compares the header with libusb's.
 # `make hostile` tries the programs in hostile ways, some minutes; HOSTILE has options of tools/hostile, or parts. `make
 # hostile-sanitized` tries broken texts over a build of usbtrace with the address sanitizer.
@@ -159,6 +160,11 @@ c-compare:
 # Beside libusb's own code over a faked kernel: LIBUSB=FILE names libusb, where it isn't installed.
 bench-usb: bin/libusb-1.0.a
 	@bench/usb/run $(if $(LIBUSB),--libusb $(LIBUSB))
+
+# Instructions of the library for C and of usbtrace, beside those of the last landing: docs/BENCH.md.
+.PHONY: bench-ir
+bench-ir:
+	@bench/instructions/run
 
 bench_c: bin/libtirnouch_core.a
 	@$(CC) $(C_FLAGS) -D_DEFAULT_SOURCE bench/core.c $< -o bin/bench_core

@@ -73,6 +73,9 @@ static int carry_out(struct libusb_transfer *transfer, struct libusb_context *co
     return error_of(transfer->status);
 }
 
+/* The most bytes of a request's data for which no memory is asked for: what most requests have, as USB 2.0, 5.5.3 limits a packet of theirs. */
+#define FEW_BYTES 64
+
 int libusb_control_transfer(libusb_device_handle *handle, uint8_t type, uint8_t request, uint16_t value, uint16_t index,
                             unsigned char *data, uint16_t length, unsigned int timeout)
 {
@@ -81,7 +84,8 @@ int libusb_control_transfer(libusb_device_handle *handle, uint8_t type, uint8_t 
     if (may_not_wait(context, __func__))
         return LIBUSB_ERROR_BUSY;
     struct libusb_transfer *transfer = libusb_alloc_transfer(0);
-    unsigned char *buffer = malloc(LIBUSB_CONTROL_SETUP_SIZE + length);
+    unsigned char few[LIBUSB_CONTROL_SETUP_SIZE + FEW_BYTES];
+    unsigned char *buffer = length <= FEW_BYTES ? few : malloc(LIBUSB_CONTROL_SETUP_SIZE + length);
     int r = transfer && buffer ? 0 : LIBUSB_ERROR_NO_MEM;
     if (!r) {
         libusb_fill_control_setup(buffer, type, request, value, index, length);
@@ -97,7 +101,8 @@ int libusb_control_transfer(libusb_device_handle *handle, uint8_t type, uint8_t 
         if (type & LIBUSB_ENDPOINT_IN && r)
             memcpy(data, buffer + LIBUSB_CONTROL_SETUP_SIZE, (size_t)r);
     }
-    free(buffer);
+    if (buffer != few)
+        free(buffer);
     libusb_free_transfer(transfer);
     return r;
 }
