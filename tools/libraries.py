@@ -7,6 +7,7 @@
 
 A library is taken only where its sources and those of all below it are the ones of this clone, by the kit's own sums. It prints what was
 taken and what lacks. `rt check`, `rt lib` and tools/prove go on over these libraries; the gate trusts none, and proves all from nothing."""
+import functools
 import os
 import pathlib
 import shutil
@@ -121,6 +122,8 @@ def main(words: List[str]) -> int:
     if words[:1] not in (["take"], ["pack"]) or len(words) > 2 or words == ["pack"]:
         print(__doc__)
         return 0 if words in (["--help"], ["-h"]) else 2
+    # A crate's sum has those of all below it: it would be made once for each way that leads there.
+    kit.code().rtlib.Crate.stamp = functools.lru_cache(maxsize=None)(kit.code().rtlib.Crate.stamp)
     ours = kit.crates(ROOT)
     held = kit.code().rtlib.lock(list(ours.values()))
     try:
@@ -128,6 +131,9 @@ def main(words: List[str]) -> int:
             return pack(pathlib.Path(words[1]), ours)
         if len(words) == 2:
             return take_from(pathlib.Path(words[1]), ours)
+        if not kit.keeps():
+            print("this kit's gate keeps nothing but crates/*/out in its own clone: make libraries FROM=CLONE takes that", file=sys.stderr)
+            return 1
         take(ours, of_gates(ours))
         return 0
     finally:
