@@ -12,8 +12,6 @@
 
 SCENARIO = rows/cancel_amid_transfer.in
 
-KIT = $(shell dirname $$(dirname $$(readlink -f $$(command -v rt))))
-
 .PHONY: run build test libraries fmt doc bench bench_threads c c-usb c-test c-abi bench-usb bench_c captures wrong_bodies plant always
 
 run:
@@ -34,9 +32,11 @@ test:
 	tools/times.py check
 	@RT_JOBS=$$(nproc) tools/progress.py proofs test -- rt ci
 	@tools/program.py keep
+	@tools/rows.py run
 	@tools/wrong_bodies.py turn
 	@tools/pictures.py check
 	@tools/scenarios.py check
+	@tools/usbtrace_test.py
 	@python3 tools/hostile gate
 
 # Gives this clone the libraries that gates proved on this machine, or those of FROM: a clone, or a file of `tools/libraries.py pack`.
@@ -57,11 +57,9 @@ bench_threads: bin/bench
 	@bin/bench threads
 
 # The library's side is proved and built as the gate does; rustc builds the harness and the plain forms, for the same processor.
-# The kit's C part gives both sides their memory.
 bin/bench: always
-	@tools/program.py build check_bench check_library
-	@rustc -O --edition 2021 -C target-cpu=x86-64-v2 bench/main.rs -o $@ \
-		-L native=bin -l static=check_bench -L native=$(KIT)/c -l static=libc_c
+	@tools/program.py build check_parts check_library
+	@rustc -O --edition 2021 -C target-cpu=x86-64-v2 bench/main.rs -o $@
 
 C_FLAGS = -std=c11 -O2 -Wall -Wextra -pedantic -fPIC -Ic/include
 
@@ -174,7 +172,7 @@ bench_c: bin/libtirnouch_core.a
 .PHONY: hostile
 hostile:
 	@tools/program.py state
-	@tools/program.py try check_library check_random
+	@tools/program.py try check_library check_parts
 	@python3 tools/hostile $(HOSTILE)
 
 .PHONY: hostile-sanitized

@@ -1,6 +1,5 @@
 //! How fast the library is, each row beside a plain form of the same work (docs/BENCH.md). To be run at the top of the repository.
 
-mod exports;
 mod plain;
 mod rows;
 mod run;

@@ -1,18 +1,15 @@
 //! The rows of the table: what each does here, and in its plain form.
 
-use crate::exports as here;
-use crate::plain::{
-    coding, events, holders, library, readings, requests, stores, traffic, transfers,
-};
-use crate::run::{here_apart, timed, Run};
+use crate::plain::{coding, events, library, traffic, transfers};
+use crate::run::{here_apart, timed, work_apart, Run};
 use crate::shape::{Shape, CALLED, EVERYWHERE, LONG, LONGEST, PACKETS, READ, SIXTEEN, WIDE, WRITE};
 use std::io::Result;
 
 /// What a row does.
 #[derive(Clone, Copy)]
 pub enum Work {
-    /// A part of the core, by a function for each side.
-    Part(extern "C" fn(u64) -> u64, fn(u64) -> u64),
+    /// A ring's work: crates/check_parts here, as of all but the library, and a function for the plain form.
+    Part(fn(u64) -> u64),
     /// Transfers through the core.
     Traffic(Shape),
     /// Resets of a device.
@@ -37,11 +34,11 @@ impl Row {
     /// So many turns here.
     pub fn here(&self, turns: u64) -> Result<Run> {
         match self.work {
-            Work::Part(here, _) => Ok(timed(turns, |turns| here(turns))),
+            Work::Part(_) => work_apart(self.word, &[], turns),
             Work::Traffic(shape) | Work::Later(shape) => {
-                Ok(timed(turns, |turns| here::traffic(&shape, turns)))
+                work_apart("traffic", &shape.numbers(), turns)
             }
-            Work::Resets(shape) => Ok(timed(turns, |turns| here::resets(&shape, turns))),
+            Work::Resets(shape) => work_apart("resets", &shape.numbers(), turns),
             Work::Library(_) => here_apart(self.word, turns),
         }
     }
@@ -49,7 +46,7 @@ impl Row {
     /// So many turns of the plain form.
     pub fn plain(&self, turns: u64) -> Run {
         match self.work {
-            Work::Part(_, plain) => timed(turns, plain),
+            Work::Part(plain) => timed(turns, plain),
             Work::Traffic(shape) | Work::Later(shape) => {
                 timed(turns, |turns| traffic::turn(&shape, turns))
             }
@@ -62,13 +59,8 @@ impl Row {
 /// So many turns of the rings and parts.
 const MANY: u64 = 10_000_000;
 
-fn part(
-    word: &'static str,
-    title: &'static str,
-    here: extern "C" fn(u64) -> u64,
-    plain: fn(u64) -> u64,
-) -> Row {
-    let work = Work::Part(here, plain);
+fn part(word: &'static str, title: &'static str, plain: fn(u64) -> u64) -> Row {
+    let work = Work::Part(plain);
     Row {
         word,
         title,
@@ -86,51 +78,16 @@ fn whole(word: &'static str, title: &'static str, turns: u64, work: Work) -> Row
     }
 }
 
-/// The parts of the core.
+/// The rings.
 fn parts() -> Vec<Row> {
     vec![
-        part(
-            "coding",
-            "a TRB encoded and decoded",
-            here::coding,
-            coding::turn,
-        ),
+        part("coding", "a TRB encoded and decoded", coding::turn),
         part(
             "transfers",
             "push, front, advance, drop_front of one TRB",
-            here::transfers,
             transfers::turn,
         ),
-        part(
-            "events",
-            "an event posted and taken",
-            here::events,
-            events::turn,
-        ),
-        part(
-            "requests",
-            "a request of 1 to 8 bytes checked, its TRBs",
-            here::requests,
-            requests::turn,
-        ),
-        part(
-            "stores",
-            "a transfer taken out of 16, and stored",
-            here::stores,
-            stores::turn,
-        ),
-        part(
-            "readings",
-            "an event read, of a line of one transfer",
-            here::readings,
-            readings::turn,
-        ),
-        part(
-            "holders",
-            "the holder of an endpoint",
-            here::holders,
-            holders::turn,
-        ),
+        part("events", "an event posted and taken", events::turn),
     ]
 }
 

@@ -8,6 +8,9 @@ use std::time::Instant;
 /// The program of the library in threads, from the top of the repository.
 const LOAD: &str = "bin/check_library";
 
+/// That of the rings and the core.
+const WORK: &str = "bin/check_parts";
+
 /// What a run gave.
 #[derive(Clone, Copy)]
 pub struct Run {
@@ -51,6 +54,14 @@ fn apart(numbers: &[u64]) -> Result<Run> {
         }),
         _ => Err(Error::other("a run printed no numbers")),
     }
+}
+
+/// So many turns of work that has these numbers.
+pub fn work_apart(word: &str, shape: &[u64], turns: u64) -> Result<Run> {
+    let words = shape.iter().chain([&turns]).map(u64::to_string);
+    apart(&numbers(
+        Command::new(WORK).args(["bench", word]).args(words),
+    )?)
 }
 
 /// So many reads by the library.

@@ -1,8 +1,7 @@
 //! What devices there are, and what is asked of them: both sides of a row are given the same.
 
-/// The devices, all alike, and the transfers through them. crates/check_bench has the same struct.
+/// The devices, all alike, and the transfers through them. crates/check_parts has the same struct.
 #[derive(Clone, Copy)]
-#[repr(C)]
 pub struct Shape {
     /// How many transfers are in flight at once.
     pub at_once: u64,
@@ -26,6 +25,20 @@ impl Shape {
     /// How many packets a transfer has.
     pub fn packets(&self) -> u32 {
         (self.length / u32::from(self.size)).max(1)
+    }
+
+    /// Its numbers, in the order in which `bin/check_parts bench` takes them.
+    pub fn numbers(&self) -> [u64; 8] {
+        [
+            self.at_once,
+            self.groups,
+            self.first,
+            self.length.into(),
+            self.answers.into(),
+            self.size.into(),
+            self.devices.into(),
+            self.endpoints.into(),
+        ]
     }
 
     /// How many transfers are in callbacks at once.

@@ -21,7 +21,7 @@ class Changes(unittest.TestCase):
     def test_a_crate_is_proved_with_all_that_stand_on_it(self) -> None:
         it = changed.trials(["crates/usb_living/src/living.rt"])
         self.assertEqual(it.changed, ["usb_living"])
-        self.assertEqual(it.proved, ["usb_living", "tirnouch_c", "example_flash"])
+        self.assertEqual(it.proved, ["usb_living", "tirnouch_c", "example_drivers"])
         self.assertEqual(it.wrong_bodies, ["usb_living"])
         self.assertEqual(it.rows, [])
         self.assertIn("texts", it.scenes)
@@ -57,7 +57,12 @@ class Changes(unittest.TestCase):
 
     def test_tools_and_python(self) -> None:
         self.assertEqual(changed.trials(["tools/runs/limit.py", "python/tirnouch/bus.py"]).tests, sorted(["tools/python_test.py all", *changed.TESTS["tools/runs"].split("; ")]))
-        self.assertEqual(changed.trials(["crates/trace_recorded/src/lib.rt"]).tests, ["make captures"])
+        self.assertEqual(changed.trials(["crates/trace_recorded/src/lib.rt"]).tests, ["make captures", "tools/usbtrace_test.py"])
+
+    def test_whole_runs_of_the_program(self) -> None:
+        for path in ("tools/usbtrace_tests/streams.py", "tools/usbtrace_test.py", "crates/usbtrace/src/main.rt", "crates/usb_model/src/lib.rt"):
+            self.assertIn("tools/usbtrace_test.py", changed.trials([path]).tests)
+        self.assertEqual(changed.trials(["crates/usb_living/src/living.rt"]).tests, [])
 
     def test_nothing(self) -> None:
         self.assertEqual(changed.lines(changed.trials([])), ["nothing that is tried differs"])

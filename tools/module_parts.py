@@ -1,7 +1,8 @@
 """A module in LLVM's text, cut in parts that are compiled side by side.
 
 Each part has whole functions, those that stand beside each other, and all that they name: constants, and declarations of what stands in
-other parts. A function that only its own part names stays internal there, so the compiler may still inline it and leave it out."""
+other parts. A short function has a copy in each part that names it, and a function that only its own part names stays internal there, so the
+compiler may still inline both. What nobody comes to from a function that is seen outside is left out before."""
 import collections
 import os
 import pathlib
@@ -17,6 +18,8 @@ FUNCTION = re.compile(r"^define [^\n]*\n.*?^}\n", re.M | re.S)
 HEAD = re.compile(r"^define (?:internal |hidden )?")
 # A global that stands once, with its type.
 STATIC = re.compile(r"^(@\S+) = (?:private|internal) (global|constant) (<\{.*?\}>|\[[^]]*\]|\S+) .*$")
+# The most characters of a function that each part may have for itself.
+SHORT = 2000
 # How many parts are made for each processor: some are dearer than others.
 PARTS_EACH = 2
 
@@ -60,6 +63,21 @@ def taken_apart(text: str) -> Module:
     return Module("\n".join(front), "\n".join(back), known, declared, functions)
 
 
+def reached(module: Module) -> Module:
+    """The module with those functions alone that somebody outside may call, and what these come to."""
+    named = {name: names_in(text) for name, text in {**module.globals, **module.functions}.items()}
+    left = [name for name, text in module.functions.items() if not text.startswith("define internal ")]
+    found = set(left)
+    while left:
+        more = named.get(left.pop(), set()) - found
+        found |= more
+        left += more
+    return module._replace(
+        globals={name: line for name, line in module.globals.items() if name in found},
+        functions={name: text for name, text in module.functions.items() if name in found},
+    )
+
+
 def shares(functions: Dict[str, str], count: int) -> List[List[str]]:
     """The functions in so many shares of some length each, in their order."""
     most, found, length = sum(map(len, functions.values())) / count, [[]], 0
@@ -88,28 +106,35 @@ def elsewhere(line: str) -> str:
     return STATIC.sub(r"\1 = external hidden \2 \3", line)
 
 
-def with_globals(module: Module, names: Set[str]) -> Set[str]:
-    """These names, and those that globals among them name."""
+def is_short(function: str) -> bool:
+    return len(function) <= SHORT and function.startswith("define internal ")
+
+
+def with_own(module: Module, names: Set[str], short: Dict[str, Set[str]]) -> Set[str]:
+    """These names, and those that globals and short functions among them name, which each part has for itself."""
     found, left = set(names), list(names)
     while left:
-        for it in names_in(module.globals.get(left.pop(), "")) - found:
-            found.add(it)
-            left.append(it)
+        name = left.pop()
+        more = (short[name] if name in short else names_in(module.globals.get(name, ""))) - found
+        found |= more
+        left += more
     return found
 
 
 def cut(text: str, count: int) -> List[str]:
     """The texts of so many parts. What stands once in the module, and is no function, stands in the first."""
-    module = taken_apart(text)
-    parts = shares(module.functions, count)
+    module = reached(taken_apart(text))
+    short = {name: names_in(it) for name, it in module.functions.items() if is_short(it)}
+    parts = shares({name: it for name, it in module.functions.items() if name not in short}, count)
     statics = {name for name, line in module.globals.items() if not is_own(line)}
     named = [names_in("".join(module.functions[it] for it in part)) for part in parts]
-    used = [with_globals(module, names | statics if at == 0 else names) for at, names in enumerate(named)]
+    used = [with_own(module, names | statics if at == 0 else names, short) for at, names in enumerate(named)]
     users = collections.Counter(name for names in used for name in names)
-    return [text_of(module, part, names, statics, at == 0, users) for at, (part, names) in enumerate(zip(parts, used))]
+    return [text_of(module, [*part, *sorted(names & short.keys())], names, statics, at == 0, users, set(short))
+            for at, (part, names) in enumerate(zip(parts, used))]
 
 
-def text_of(module: Module, part: List[str], names: Set[str], statics: Set[str], is_first: bool, users: Dict[str, int]) -> str:
+def text_of(module: Module, part: List[str], names: Set[str], statics: Set[str], is_first: bool, users: Dict[str, int], short: Set[str]) -> str:
     """The text of a part: its functions, and what else it names."""
     lines, mine = [module.front, ""], set(part)
     for name in sorted(names & module.globals.keys()):
@@ -119,7 +144,7 @@ def text_of(module: Module, part: List[str], names: Set[str], statics: Set[str],
         lines.append(line)
     for name in part:
         function = module.functions[name]
-        lines.append(function if users[name] == 1 else function.replace("define internal ", "define hidden ", 1))
+        lines.append(function if name in short or users[name] == 1 else function.replace("define internal ", "define hidden ", 1))
     lines += [declaration(module.functions[it]) for it in sorted((names - mine) & module.functions.keys())]
     lines += [module.declarations[it] for it in sorted(names & module.declarations.keys())]
     return "\n".join([*lines, "", module.back, ""])

@@ -165,7 +165,7 @@ def name_faults() -> Iterator[str]:
     sources = list((ROOT / "crates").rglob("*.rt"))
     names = {it.stem for it in sources} | {it.name for it in (ROOT / "crates").iterdir()}
     for source in sources:
-        names |= set(re.findall(r"\b(?:fn|struct|enum|trait|type) (\w+)", source.read_text()))
+        names |= set(re.findall(r"\b(?:fn|struct|enum|trait|type|ghost) (\w+)", source.read_text()))
     files = {it.name for it in sources}
     for page in PAGES:
         text = page.read_text()

@@ -6,7 +6,7 @@
                                       than the checks of an unproved build, is hundreds of times slower, and can't run in little memory
     tools/program.py build            builds it proved, as the gate does, crate beside crate: what isn't kept on this machine is proved
     tools/program.py build NAME ..    the same of other crates: a program as bin/NAME, a static library as bin/libNAME.a
-    tools/program.py keep             takes what the gate has just proved and built: usbtrace, check_library and check_random; and notes the
+    tools/program.py keep             takes what the gate has just proved and built: usbtrace, check_library and check_parts; and notes the
                                       libraries over which `build tirnouch_c` then proves that crate alone
     tools/program.py state            says which usbtrace stands there, on standard error
     tools/program.py state NAME       how another crate was built that stands there, in a word: proved, unproved, trusted, or none
@@ -16,7 +16,6 @@ an unproved tirnouch_c, which is `trusted` then: the compiler takes for granted 
 import hashlib
 import os
 import pathlib
-import re
 import shutil
 import subprocess
 import sys
@@ -30,7 +29,7 @@ ROOT = pathlib.Path(__file__).resolve().parent.parent
 BIN = ROOT / "bin"
 CRATES = ROOT / "crates"
 # The programs that are taken from the gate, which tools/hostile tries.
-KEPT = ("usbtrace", "check_library", "check_random")
+KEPT = ("usbtrace", "check_library", "check_parts")
 # The static libraries that are built over libraries of the gate.
 OVER_THE_GATE = ("tirnouch_c",)
 # The kit: the folder above that of `rt`.
@@ -38,7 +37,7 @@ KIT = pathlib.Path(shutil.which("rt") or "rt").resolve().parent.parent
 # What the name of a build with the address sanitizer ends in.
 SANITIZED = ".sanitized"
 # Words with which a run of a program is short, by which it is built with the sanitizer; of others, without words.
-SHORT = {"usbtrace": ("run",), "check_library": ("refusals",), "check_random": ("refusals", "1")}
+SHORT = {"usbtrace": ("run",), "check_library": ("refusals",), "check_parts": ("refusals", "1")}
 
 
 def sum_of_files(name):
@@ -143,14 +142,10 @@ def copy_of(name, folder):
 
 
 def copy_below(name, folder, leaves_out):
-    """Copies a crate and those that it stands on, without wrong bodies and tests, into a repository of their own."""
+    """Copies a crate and those that it stands on, without wrong bodies, into a repository of their own."""
     names = [it for it in crate_graph.below(name) if it not in leaves_out]
     for it in names:
-        leave = shutil.ignore_patterns("out", "must-fail", *(["tests", "tests.rt"] if it == "usbtrace" else []))
-        shutil.copytree(CRATES / it, folder / "crates" / it, ignore=leave)
-        main = folder / "crates" / it / "src" / "main.rt"
-        if main.is_file():
-            main.write_text(re.sub(r"#\[cfg\(test\)\]\nmod tests;\n\n?", "", main.read_text()))
+        shutil.copytree(CRATES / it, folder / "crates" / it, ignore=shutil.ignore_patterns("out", "must-fail"))
     (folder / "crates.txt").write_text("".join(line + "\n" for it, line in crate_graph.lines().items() if it in names))
     shutil.copyfile(ROOT / "HANDLES", folder / "HANDLES")
     (folder / ".git").mkdir()

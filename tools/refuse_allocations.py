@@ -14,7 +14,7 @@ refused, and once this call and all behind it. So with the threads that are made
                within six times that by the clock
 
 Prints a line for each scenario and word, and one for each wrong run; status 1 where there is one. With --same only `unharmed`
-is right, and one call at a time is refused: for `check_library refusals` and both words of check_random, which make again what
+is right, and one call at a time is refused: for `check_library refusals` and both words of check_parts, which make again what
 was refused. Needs a C compiler."""
 import argparse
 import collections
@@ -69,10 +69,11 @@ FAILING = r"""
 #include <unistd.h>
 
 enum kind { MEMORY, THREADS, READS, WRITES, ERRORS, KINDS };
-enum { PAGE = 4096, JUMP = 0xe9, JUMP_SIZE = 5, BELOW = 1 << 28 };
+enum { PAGE = 4096, JUMP = 0xe9, JUMP_SIZE = 5, BELOW = 1 << 28, AHEAD = 1 << 16 };
+static const long FOREVER = 1L << 62;
 
 static atomic_long *made;
-static long failing = -1, first, last, code;
+static long failing = -1, first, last, each, code, room;
 static uintptr_t own_begin, own_end;
 static void *(*real_malloc)(size_t);
 static void *(*real_realloc)(void *, size_t);
@@ -83,7 +84,7 @@ static ssize_t (*real_write)(int, const void *, size_t);
 static int fails(enum kind kind) {
     if (!made) return 0;
     long now = ++made[kind];
-    return kind == failing && first <= now && now <= last;
+    return kind == failing && first <= now && now <= last && (now - first) % each == 0;
 }
 
 /* The function behind ours; looking for it takes no memory. */
@@ -114,20 +115,35 @@ int pthread_create(pthread_t *thread, const pthread_attr_t *how, void *(*body)(v
     return fails(THREADS) ? EAGAIN : real_create(thread, how, body, with);
 }
 
+/* One byte, of many that are read at once. */
+static ssize_t give_one(int from, unsigned char *to) {
+    static unsigned char ahead[AHEAD];
+    static ssize_t at, end;
+    if (at == end) at = 0, end = real_read(from, ahead, sizeof ahead);
+    if (end <= 0) { at = end; return end; }
+    *to = ahead[at++];
+    return 1;
+}
+
 /* Fails by a code; where it is 0, the call is made for one byte. */
 ssize_t read(int from, void *to, size_t size) {
     find(&real_read, "read");
     if (from != STDIN_FILENO || !fails(READS)) return real_read(from, to, size);
     if (code) { errno = code; return -1; }
+    if (last == FOREVER && size) return give_one(from, to);
     return real_read(from, to, size ? 1 : 0);
 }
 
+/* Fails by a code, once so many bytes are written; where it is 0, the call is made for one byte. */
 ssize_t write(int to, const void *from, size_t size) {
     find(&real_write, "write");
     if ((to != STDOUT_FILENO && to != STDERR_FILENO) || !fails(to == STDOUT_FILENO ? WRITES : ERRORS))
         return real_write(to, from, size);
-    if (code) { errno = code; return -1; }
-    return real_write(to, from, size ? 1 : 0);
+    if (code && !room) { errno = code; return -1; }
+    size_t most = code ? (size_t)room : 1;
+    ssize_t done = real_write(to, from, size < most ? size : most);
+    if (code && done > 0) room -= done;
+    return done;
 }
 
 /* Where the program has such a function of its own, turns the jump at which it is entered to ours, by way of a long one nearby. */
@@ -173,7 +189,8 @@ __attribute__((constructor)) static void begin(void) {
     void *counts = mmap(NULL, PAGE, PROT_READ | PROT_WRITE, MAP_SHARED, file, 0);
     if (counts == MAP_FAILED) abort();
     close(file);
-    failing = number("FAIL_KIND"), first = number("FAIL_FIRST"), last = number("FAIL_LAST"), code = number("FAIL_CODE");
+    failing = number("FAIL_KIND"), first = number("FAIL_FIRST"), last = number("FAIL_LAST"), each = number("FAIL_EACH");
+    code = number("FAIL_CODE"), room = number("FAIL_ROOM");
     rlim_t most = number("FAIL_SECONDS");
     if (most) setrlimit(RLIMIT_CPU, &(struct rlimit){most, most + 1});
     made = counts;
@@ -182,8 +199,9 @@ __attribute__((constructor)) static void begin(void) {
 COUNTS = struct.Struct(f"{len(KINDS)}l")
 FOREVER = 2**62
 
-# What fails: a kind, from a call to a call, by a code of errno; 0 is a read or write of one byte.
-Failing = collections.namedtuple("Failing", "kind first last code", defaults=(0,))
+# What fails: a kind, from a call to a call, each of them or each second one .., by a code of errno; 0 is a read or write of one byte. Of
+# writes so many bytes are made before.
+Failing = collections.namedtuple("Failing", "kind first last code each room", defaults=(0, 1, 0))
 NOTHING = Failing("memory", 0, 0)
 # How a program ended: its status is None where it didn't end. And how many calls of each kind it made.
 Ended = collections.namedtuple("Ended", "status out err made")
@@ -215,18 +233,22 @@ class Room:
 
     def names(self, counts, failing, seconds):
         """The environment of a run."""
-        told = {"KIND": KINDS.index(failing.kind), "FIRST": failing.first, "LAST": failing.last, "CODE": failing.code}
-        told["SECONDS"] = math.ceil(seconds)
-        told = {f"FAIL_{name}": str(value) for name, value in told.items()}
+        told = {**failing._asdict(), "kind": KINDS.index(failing.kind), "seconds": math.ceil(seconds)}
+        told = {f"FAIL_{name.upper()}": str(value) for name, value in told.items()}
         return {**os.environ, "LD_PRELOAD": self.library, "FAIL_COUNTS": counts, **told}
 
     def ran(self, words, given, failing=NOTHING, seconds=SECONDS):
         """How a program ends over an input, where this fails. The input is a file: a pipe may be read in any number of reads."""
-        with tempfile.NamedTemporaryFile(dir=self.folder) as counts, tempfile.TemporaryFile(dir=self.folder) as source:
-            counts.write(bytes(mmap.PAGESIZE))
-            counts.flush()
+        with tempfile.TemporaryFile(dir=self.folder) as source:
             source.write(given)
             source.seek(0)
+            return self.ran_over(words, source, failing, seconds)
+
+    def ran_over(self, words, source, failing=NOTHING, seconds=SECONDS):
+        """The same over a stream."""
+        with tempfile.NamedTemporaryFile(dir=self.folder) as counts:
+            counts.write(bytes(mmap.PAGESIZE))
+            counts.flush()
             it = ended(words, seconds, stdin=source, env=self.names(counts.name, failing, seconds))
             counts.seek(0)
             return it._replace(made=dict(zip(KINDS, COUNTS.unpack(counts.read(COUNTS.size)))))

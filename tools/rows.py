@@ -1,25 +1,37 @@
 #!/usr/bin/env python3
-"""The worked rows of rows/ (rows/README.md), as the gate runs and proves them: all in one text, which the program
-check_rows reads; and those of rows/proved.txt in crates/proof_laws, as definitions (tools/proved_rows.py).
+"""The worked rows of rows/ (rows/README.md), as the gate runs and proves them: all by bin/usbtrace; those that are run to their end by the
+plain program too, in one text, which the program check_parts reads; and those of rows/proved.txt in crates/proof_laws, as definitions
+(tools/proved_rows.py).
 
     tools/rows.py write         writes those files of the two crates anew that aren't as rows/ has them
     tools/rows.py check         says which they are; the gate asks it
-    tools/rows.py run [NAME ..] runs all rows, or these, by the built program over its own streams, and says which differ
+    tools/rows.py run [NAME ..] runs all rows, or these, by the built program over its own streams, and says which differ; the gate does.
+                                Standard input comes 61 bytes at a time, so that lines are cut anywhere
 
-What check_rows is to print, and what is proved, comes from the rows' files, and never from a program."""
+What check_parts is to print, and what is proved, comes from the rows' files, and never from a program."""
+import array
+import fcntl
+import os
 import pathlib
 import re
 import subprocess
 import sys
+import termios
+import threading
+import time
 
 from proved_rows import BadRow, proved_files
 
 ROOT = pathlib.Path(__file__).resolve().parent.parent
 ROWS = ROOT / "rows"
-CRATE = ROOT / "crates" / "check_rows"
+CRATE = ROOT / "crates" / "check_parts"
 PROGRAM = ROOT / "bin" / "usbtrace"
-# What stands before a row's name; and what is printed before its status and errors, and before what the plain program prints.
-NAME, STATUS, PLAIN = b"=== ", b"--- status ", b"--- by the plain program\n"
+# What stands before a row's name, and before all that the plain program prints of rows.
+NAME, PLAIN = b"=== ", b"worked rows, by the plain program\n"
+# What a line of a test begins with that is no line of its scenario.
+EXPECTS = b"expect "
+# How many bytes of standard input come at a time, and for how many seconds a row may run.
+STEP, SECONDS = 61, 60
 # The files of a row, and those that are no row's.
 KINDS, PAGES = ("cmd", "in", "out", "err", "status"), ("README.md", "proved.txt")
 
@@ -54,25 +66,43 @@ class Row:
         if NAME in self.input:
             raise BadRow(f"{self.name}.in: `===` stands between rows, and can't stand in one")
 
-    def traced(self):
-        """What `trace` says on standard error, which check_rows calls: why a line of a test is bad the program says behind it."""
-        return re.sub(rb"(?m)^    .*\n", b"", self.errors) if self.words == "test\n" else self.errors
+    def is_plain(self):
+        """Whether the plain program runs it: what is run to its end."""
+        return not self.status and not self.errors and bool(re.fullmatch(r"run|alone \d+", self.words.strip()))
 
     def text(self):
-        """The row, as check_rows reads it."""
-        return NAME + f"{self.name}\nusbtrace {self.words}".encode() + self.input
+        """The row, as check_parts reads it: a scenario, so without what a test expects."""
+        steps = b"".join(it for it in self.input.splitlines(keepends=True) if not it.startswith(EXPECTS))
+        return NAME + f"{self.name}\nusbtrace {self.words}".encode() + steps
 
     def printed(self):
-        """What check_rows is to print of it: the plain program runs what is run to its end."""
-        text = NAME + f"{self.name}\n".encode() + self.output
-        if self.status or self.errors:
-            return text + STATUS + f"{self.status}\n".encode() + self.traced()
-        return text + PLAIN + self.output if re.fullmatch(r"run|alone \d+", self.words.strip()) else text
+        """What check_parts is to print of it."""
+        return NAME + f"{self.name}\n".encode() + self.output
 
     def differs(self):
         """Whether the built program does otherwise."""
-        ran = subprocess.run([PROGRAM, *self.words.split()], input=self.input, capture_output=True, timeout=60)
+        (read, write), ended = os.pipe(), threading.Event()
+        feeding = threading.Thread(target=feed, args=(write, self.input, ended))
+        feeding.start()
+        try:
+            ran = subprocess.run([PROGRAM, *self.words.split()], stdin=read, capture_output=True, timeout=SECONDS)
+        finally:
+            ended.set()
+            feeding.join()
+            os.close(read)
         return (ran.returncode, ran.stdout, ran.stderr) != (self.status, self.output, self.errors)
+
+
+def feed(pipe, text, ended):
+    """Gives a program its input, a step at a time: the next once the last was read."""
+    left = array.array("i", [0])
+    for at in range(0, len(text), STEP):
+        os.write(pipe, text[at:at + STEP])
+        while not fcntl.ioctl(pipe, termios.FIONREAD, left) and left[0] and not ended.is_set():
+            time.sleep(0.0002)
+        if ended.is_set():
+            break
+    os.close(pipe)
 
 
 def all_rows():
@@ -86,8 +116,9 @@ def all_rows():
 
 def files(rows):
     """The files that are written, and what has to stand in them."""
-    asked, printed = b"".join(row.text() for row in rows), b"".join(row.printed() for row in rows)
-    return {CRATE / "stdin": asked, CRATE / "stdout": printed, **proved_files(rows)}
+    plain, scenes = [row for row in rows if row.is_plain()], (CRATE / "stdout").read_bytes().partition(PLAIN)[0]
+    asked, printed = b"".join(row.text() for row in plain), b"".join(row.printed() for row in plain)
+    return {CRATE / "stdin": asked, CRATE / "stdout": scenes + PLAIN + printed, **proved_files(rows)}
 
 
 def is_in(path, text):
@@ -111,7 +142,7 @@ def check(rows):
     for path in others:
         print(f"{path.relative_to(ROOT)} isn't that of rows/: tools/rows.py write")
     if not others:
-        print(f"{len(rows)} worked rows stand in check_rows, and in proof_laws those of rows/proved.txt")
+        print(f"{len(rows)} worked rows, of which check_parts has those of the plain program, and proof_laws those of rows/proved.txt")
     return 1 if others else 0
 
 

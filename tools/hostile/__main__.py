@@ -4,7 +4,7 @@
     python3 tools/hostile gate         some of each part, by one processor in half a minute; the gate asks it
 
     memory         every word over every row: an allocation or a thread is refused, alone or with all behind it
-    again          check_library and check_random, which make again what an allocation was refused to
+    again          check_library and check_parts, which make again what an allocation was refused to
     random         every word over random scenarios
     fed            every word over random scenarios whose answers are fed, and over the same ones with whole scripts
     truth          `explain` over random scenarios that come to its reasons: each sentence is true; how often each form came is told

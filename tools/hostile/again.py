@@ -2,14 +2,14 @@
 from refuse_allocations import said, told, tries_same
 from runs import ROOT, Part, Tried
 
-# How many seeds are tried of each word of check_random; the gate tries one.
+# How many seeds are tried of each word of check_parts; the gate tries one.
 SEEDS = 5
 WORDS = ("refusals", "drives")
 
 
 def cases_of(asked, seeds):
     """The words of each program, which stands in bin/."""
-    return [("check_library", "refusals"), *(("check_random", f"{word} {asked.seed + k}") for word in WORDS for k in range(seeds))]
+    return [("check_library", "refusals"), *(("check_parts", f"{word} {asked.seed + k}") for word in WORDS for k in range(seeds))]
 
 
 def cases(asked):

@@ -23,22 +23,33 @@ struct Bench {
 /// What is due to a callback whose transfer completed and was submitted so often before, three times at most. It has that number.
 pub fn completed(alloc: Global, round: u64) -> Result<Due> {
     let mut bench = Bench::new(alloc)?;
-    bench.begin()?;
-    let mut due = bench.next()?;
-    for _ in 0..round {
-        bench.again(due.n)?;
-        due = bench.next()?;
-    }
-    Ok(due)
+    bench.due(round)
 }
 
 impl Bench {
     /// A device with a packet for each round, which nobody has opened.
     fn new(alloc: Global) -> Result<Bench> {
+        let reader = Reader::new(0, 0, 0)?;
         Ok(Bench {
             core: Core::new(alloc, devices(alloc, 1, BYTES, &[BYTES; 4])?)?,
-            reader: Reader::new(0, 0, 0)?,
+            reader,
         })
+    }
+
+    /// What is due of a read that was submitted so often before.
+    fn due(&mut self, round: u64) -> Result<Due> {
+        self.begin()?;
+        for _ in 0..round {
+            self.pass()?;
+        }
+        self.next()
+    }
+
+    /// A round, behind which the read is submitted once more.
+    fn pass(&mut self) -> Result<()> {
+        let n = self.next()?.n;
+        self.again(n)?;
+        Ok(())
     }
 
     /// A read is submitted by the handle that has the device's interface.

@@ -1,2 +1,1 @@
 mod Traced
-mod Counting

@@ -13,7 +13,8 @@ use Rattle.trace_scenario.specs.Findings.{bad_lines}
 use Rattle.trace_main.specs.Program.{AskForOther, AskForThreads, Begins, FindsUnexpected, IsAlone, IsSilentAtBad, MayEnd, TellsRest, TellsWhy}
 use Rattle.trace_main.specs.Source.{OfSource, text_in}
 use Rattle.trace_main.proofs.Begun.{keeps_same, nothing_of, told_front}
-use Rattle.trace_command.specs.Layer.{Traces, TracesInput, is_half, may_name_files}
+use Rattle.trace_options.specs.Inputs.{is_half, may_name_files}
+use Rattle.trace_command.specs.Layer.{Traces, TracesInput}
 
 pub of_trace : (words : List Text) (input : Option (List ℕ)) (old new err_old err_new : Option (List ℕ)) (status : ℕ) {P Q : Type 0}
     → status ≤ 3

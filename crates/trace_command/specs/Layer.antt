@@ -1,7 +1,6 @@
 -- What the program does with words that name no file, and with a test of one.
-use Rattle.std.specs.Prelude.{◌≡◌, ◌≤◌, ◌⊎◌, ◌||◌, ◌==◌, ◌+◌, ℕ, nat_lt, Bool, true, false, List, [], Option, Some, None, IfSome, Result, Ok, Err}
+use Rattle.std.specs.Prelude.{◌≡◌, ◌≤◌, ◌⊎◌, ℕ, false, List, [], Option, Some, None, IfSome, Result, Ok, Err}
 use Rattle.std.specs.Io.KnownBytes.{Keeps}
-use Rattle.std.specs.List.{list_any}
 use Rattle.clap.specs.Walk.{Text}
 use Rattle.trace_io.specs.CommandLine.{AreBad, AskFor, AskForHelp}
 use Rattle.trace_io.specs.declared.fault.Fault.{Fault}
@@ -9,21 +8,9 @@ use Rattle.trace_io.specs.declared.words.Task.{Task}
 use Rattle.trace_io.specs.declared.words.Task.TheVariants as task
 use Rattle.trace_run.specs.declared.tasks.TaskEnd.{TaskEnd}
 use Rattle.trace_scenario.specs.Findings.{bad_lines}
+use Rattle.trace_options.specs.Inputs.{is_half, may_name_files}
 use Rattle.trace_main.specs.Program.{AskForOther, AskForThreads, Begins, FindsUnexpected, IsSilentAtBad, Performs, TellsRest, TellsWhy, status_of}
 use Rattle.trace_main.specs.Source.{OfSource, text_in}
-
--- whether more is told of a task than `trace` tells: what is missing of an input, or of a test why a line is bad and that it expects nothing; so of a picture of some lines
-abbrev pub is_half : Task → Bool
-is_half (task.Draw from to) = nat_lt 1 from || nat_lt to 18446744073709551615
-is_half (task.Page from to) = nat_lt 1 from || nat_lt to 18446744073709551615
-is_half task.Describe = true
-is_half (task.Devices reader) = true
-is_half task.Test = true
-is_half t = false
-
--- whether a text may name a file whose bytes it has
-abbrev pub may_name_files : List ℕ → Bool
-may_name_files text = list_any (λ b. b == 64) text
 
 -- what comes of these words over this input, by what stood on the streams before and stands there behind, and the status: what is promised of `trace`, clause by clause, but for what it says of an input that isn't read
 pub record Traces (words : List Text) (text : List ℕ) (old new err_old err_new : Option (List ℕ)) (status : ℕ) : Type 0 where

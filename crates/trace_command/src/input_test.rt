@@ -5,13 +5,12 @@ ghost use Rattle.trace_command.specs.Layer.{EndsTest};
 ghost use Rattle.trace_io.specs.Input.{longest_input};
 ghost use Rattle.trace_main.specs.Program.{status_of};
 
-use crate::bad_line::first_bad_line;
-use crate::expecting::expects_nothing;
 use std::alloc::{AllocError, Global};
 use std::io::Write;
 use trace_io::Fault;
 use trace_main::{run_test, status_of};
 use trace_run::TaskEnd;
+use trace_suite::{expects_nothing, first_bad_line};
 
 /// What is told of a test that is passed and expects nothing.
 const EXPECTS_NOTHING: &[u8] = b"usbtrace: the test expects nothing\n";

@@ -4,17 +4,16 @@ ghost use Rattle.std.specs.Prelude.{◌≡◌, false, IfOk, IsOk};
 ghost use Rattle.trace_io.specs.CommandLine.{AskFor};
 ghost use Rattle.trace_io.specs.declared.words.Task.{Task};
 ghost use Rattle.usb_scripttext.specs.Words.{words_of};
-ghost use Rattle.trace_command.specs.Layer.{Traces, TracesInput, is_half, may_name_files};
+ghost use Rattle.trace_options.specs.Inputs.{is_half, may_name_files};
+ghost use Rattle.trace_command.specs.Layer.{Traces, TracesInput};
 
-use crate::halves::perform_task;
-use crate::inserted::{InsertedFault, inserted};
-use crate::statuses::{FAILED, tell_fault};
+use crate::tasks::perform_task;
 use std::alloc::Global;
 use std::io::{Read, Write};
 use std::rt::Files;
-use std::sync::Wait;
-use std::thread::Threads;
 use trace_io::{Task, read_whole};
+use trace_options::{FAILED, InsertedFault, inserted, tell_fault};
+use trace_threads::Performer;
 
 /// Whether a task takes a scenario.
 fn takes_scenario(task: &Task) -> bool {
@@ -22,8 +21,9 @@ fn takes_scenario(task: &Task) -> bool {
 }
 
 /// Does a task over a scenario, with the bytes of the files that it names in a folder.
-fn perform_scenario<T: Threads + Wait + Sync + Files, W: Write, E: Write>(
+fn perform_scenario<T: Files, P: Performer, W: Write, E: Write>(
     rt: &T,
+    performer: &P,
     alloc: Global,
     words: &[&str],
     task: &Task,
@@ -32,6 +32,7 @@ fn perform_scenario<T: Threads + Wait + Sync + Files, W: Write, E: Write>(
     out: &mut W,
     err: &mut E,
 ) -> Result<u8, InsertedFault>
+    requires ready { P.ready performer.now }
     ensures done { may_name_files text.now ≡ false → IsOk result }
     ensures traced { IfOk result (λ status. is_half task.now ≡ false → ((t : Task) → AskFor (words_of words.now) t → is_half t ≡ false) → may_name_files text.now ≡ false
         → Traces (words_of words.now) text.now (W.contents out.old) (W.contents out.new) (E.contents err.old) (E.contents err.new) status) }
@@ -41,7 +42,7 @@ fn perform_scenario<T: Threads + Wait + Sync + Files, W: Write, E: Write>(
         Some(whole) => whole.as_slice(),
         None => text,
     };
-    Ok(perform_task(rt, alloc, words, task, &mut input, out, err))
+    Ok(perform_task(performer, alloc, words, task, &mut input, out, err))
 }
 
 /// Says why a text has no bytes of files, and answers the status.
@@ -58,8 +59,9 @@ fn refuse<E: Write>(fault: &InsertedFault, err: &mut E) -> u8 {
 }
 
 /// Does a task over an input, and answers the status. Files that a scenario names are looked for in this folder.
-pub fn perform_over<T: Threads + Wait + Sync + Files, R: Read, W: Write, E: Write>(
+pub fn perform_over<T: Files, P: Performer, R: Read, W: Write, E: Write>(
     rt: &T,
+    performer: &P,
     alloc: Global,
     words: &[&str],
     task: &Task,
@@ -68,17 +70,28 @@ pub fn perform_over<T: Threads + Wait + Sync + Files, R: Read, W: Write, E: Writ
     out: &mut W,
     err: &mut E,
 ) -> u8
-    requires { AskFor (words_of words.now) task.now }
+    requires ready { P.ready performer.now }
+    requires asked { AskFor (words_of words.now) task.now }
     ensures { TracesInput (words_of words.now) (R.remaining input.old) (W.contents out.old) (W.contents out.new) (E.contents err.old) (E.contents err.new) result }
 {
     if !takes_scenario(task) {
-        return perform_task(rt, alloc, words, task, input, out, err);
+        return perform_task(performer, alloc, words, task, input, out, err);
     }
     let text = match read_whole(alloc, input) {
         Ok(text) => text,
         Err(fault) => return tell_fault(fault, err),
     };
-    match perform_scenario(rt, alloc, words, task, folder, text.as_slice(), out, err) {
+    match perform_scenario(
+        rt,
+        performer,
+        alloc,
+        words,
+        task,
+        folder,
+        text.as_slice(),
+        out,
+        err,
+    ) {
         Ok(status) => status,
         Err(fault) => refuse(&fault, err),
     }

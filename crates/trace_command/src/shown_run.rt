@@ -1,35 +1,24 @@
 //! The run of a test, as `explain` and `draw` tell it.
 
-use crate::page::ShownRun;
 use std::alloc::{AllocError, Global};
-use std::sync::Wait;
-use std::thread::Threads;
 use trace_main::trace;
+use trace_suite::{Showing, ShownRun};
+use trace_threads::Nobody;
 
-/// What the program prints over a text with these words; None where it doesn't end well.
-fn traced<T: Threads + Wait + Sync>(
-    rt: &T,
-    alloc: Global,
-    words: &[&str],
-    text: &[u8],
-) -> Option<Vec<u8>> {
+/// What the program prints over a text with these words, which ask for no threads; None where it doesn't end well.
+fn traced(alloc: Global, words: &[&str], text: &[u8]) -> Option<Vec<u8>> {
     let (mut input, mut out, mut err) = (text, Vec::new(alloc), Vec::new(alloc));
-    let status = trace(rt, alloc, words, &mut input, &mut out, &mut err);
+    let status = trace(&Nobody, alloc, words, &mut input, &mut out, &mut err);
     (status == 0).then_some(out)
 }
 
 /// What `explain` prints; None where it doesn't read the text.
-fn explained<T: Threads + Wait + Sync>(rt: &T, alloc: Global, text: &[u8]) -> Option<Vec<u8>> {
-    traced(rt, alloc, &["usbtrace", "explain"], text)
+fn explained(alloc: Global, text: &[u8]) -> Option<Vec<u8>> {
+    traced(alloc, &["usbtrace", "explain"], text)
 }
 
 /// A picture of some lines; nothing where there is none.
-fn picture<T: Threads + Wait + Sync>(
-    rt: &T,
-    alloc: Global,
-    text: &[u8],
-    lines: (u64, u64),
-) -> Result<Vec<u8>, AllocError> {
+fn picture(alloc: Global, text: &[u8], lines: (u64, u64)) -> Result<Vec<u8>, AllocError> {
     let (from, to) = lines;
     let (from, to) = (format!(in alloc; "{from}")?, format!(in alloc; "{to}")?);
     let words = [
@@ -40,18 +29,23 @@ fn picture<T: Threads + Wait + Sync>(
         "--to",
         to.as_str(),
     ];
-    Ok(traced(rt, alloc, &words, text).unwrap_or(Vec::new(alloc)))
+    Ok(traced(alloc, &words, text).unwrap_or(Vec::new(alloc)))
 }
 
-/// The run of a test: what `explain` prints of it, and a picture of some of its lines; nothing where the test can't be read.
-pub fn shown_run<T: Threads + Wait + Sync>(
-    rt: &T,
-    alloc: Global,
-    text: &[u8],
-    lines: (u64, u64),
-) -> Result<ShownRun, AllocError> {
-    Ok(ShownRun {
-        explained: explained(rt, alloc, text).unwrap_or(Vec::new(alloc)),
-        picture: picture(rt, alloc, text, lines)?,
-    })
+/// Shows runs as `explain` and `draw` tell them.
+#[derive(Drop)]
+pub struct TracedRuns;
+
+impl Showing for TracedRuns {
+    fn shown_run(
+        &self,
+        alloc: Global,
+        text: &[u8],
+        lines: (u64, u64),
+    ) -> Result<ShownRun, AllocError> {
+        Ok(ShownRun {
+            explained: explained(alloc, text).unwrap_or(Vec::new(alloc)),
+            picture: picture(alloc, text, lines)?,
+        })
+    }
 }

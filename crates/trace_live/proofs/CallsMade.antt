@@ -17,7 +17,7 @@ use Rattle.usb_journal.specs.Seen.{caller_of}
 use Rattle.usb_library.specs.Calls.{Calling, Knows, ShowsEvents, ShowsPending}
 use Rattle.usb_workers.specs.Rounds.{Controls, Handles}
 use Rattle.usb_workers.specs.Life.{Drives, Each, LivedBy, Returns}
-use Rattle.trace_live.specs.Calls.{HasCalls, calls_by, handle_of, is_call_of, is_lived, steps_in}
+use Rattle.trace_threads.specs.Calls.{HasCalls, calls_by, handle_of, is_call_of, is_lived, steps_in}
 use Rattle.trace_live.specs.Lines.{ArePlanned, has_steps}
 use Rattle.trace_live.proofs.Parts.{Covers, Empty, Lone, joined, joined-empty}
 use Rattle.trace_live.proofs.Shares.{Owns, all_passing, empty_dealt, empty_had, joined_dealt, joined_had, lone_dealt, lone_empty, lone_had, passing, second_has}

@@ -8,7 +8,7 @@ use Rattle.std.proofs.lemmas.List.Elements.{filter-append}
 use Rattle.usb_model.specs.declared.plan.Plan.{Plan}
 use Rattle.usb_model.specs.declared.plan.Plan.TheVariants.{Do, Return}
 use Rattle.usb_model.specs.declared.step.Step.{Step}
-use Rattle.trace_live.specs.Calls.{calls_by, handle_of, is_call_of, steps_in}
+use Rattle.trace_threads.specs.Calls.{calls_by, handle_of, is_call_of, steps_in}
 use Rattle.trace_live.specs.declared.line.Line.{Line}
 use Rattle.trace_live.specs.Lines.{AreDealt, call_in, dealt, said_by, said_by_all, said_by_each}
 

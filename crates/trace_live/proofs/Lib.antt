@@ -1,6 +1,7 @@
 mod CallsMade
 mod Dealing
 mod Driving
+mod Named
 mod Parts
 mod Queues
 mod Reports

@@ -6,7 +6,7 @@ use Rattle.usb_model.specs.declared.request.Request.{Request}
 use Rattle.usb_model.specs.declared.step.Step.TheVariants as step
 use Rattle.usb_model.specs.declared.verdict.Rule.{Rule}
 use Rattle.usb_model.specs.World.Plans.{first_rule, once_only, rules_after}
-use Rattle.trace_live.specs.Verdicts.{AreGiven, IsRuleOf, ruled}
+use Rattle.trace_threads.specs.Verdicts.{AreGiven, IsRuleOf, ruled}
 
 -- those of a piece, and behind them those of the plan's rest
 ruled_on : (piece : Plan) (plan : List Plan) (rules : List Rule) → ruled (piece ∷ plan) rules ≡ ruled (piece ∷ []) rules ++ ruled plan (rules_after piece rules)

@@ -23,7 +23,7 @@ use Rattle.usb_journal.specs.Seen.{Receipted}
 use Rattle.usb_library.specs.Calls.{Calling, Makes, MakesRow, misses}
 use Rattle.usb_workers.specs.Rounds.{CallsBackAll, CallsBackIf, DeliversIf, DeliversRow, Ends, Handles, Resubmits, Rounds, Takes, Tells, TellsAll, called_in, is_accepted, is_called, missed_by}
 use Rattle.usb_workers.specs.Rounds as R
-use Rattle.trace_live.specs.Verdicts.{IsRuleOf}
+use Rattle.trace_threads.specs.Verdicts.{IsRuleOf}
 use Rattle.trace_live.proofs.Workers.{asked_steps, is_answer, steps_asked}
 
 -- a place is among these

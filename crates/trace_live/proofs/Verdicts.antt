@@ -19,13 +19,14 @@ use Rattle.usb_recorder.specs.declared.place.Place.{Place}
 use Rattle.usb_journal.specs.Booked.{IsRun, entries_of, steps_of}
 use Rattle.usb_journal.specs.Seen.{caller_of, places_of}
 use Rattle.usb_library.specs.Calls.{Calling, ShowsEvents}
-use Rattle.usb_workers.specs.Rounds.{MayAnswer, called_in, is_accepted, is_called}
+use Rattle.usb_workers.specs.Rounds.{MayAnswer, called_in, is_called}
 use Rattle.usb_workers.specs.Life.{LivedBy}
-use Rattle.trace_live.specs.Callbacks.{is_callback}
+use Rattle.trace_threads.specs.Callbacks.{is_callback}
 use Rattle.trace_live.specs.Lines.{ArePlanned}
-use Rattle.trace_live.specs.Verdicts.{AreToldSo, IsRuleOf, MayBeTold, WasTold}
-use Rattle.trace_live.specs.Verdicts as V
+use Rattle.trace_threads.specs.Verdicts.{AreToldSo, IsRuleOf, MayBeTold, WasTold, is_accepted}
+use Rattle.trace_threads.specs.Verdicts as V
 use Rattle.trace_live.proofs.CallsMade.{answers_are}
+use Rattle.trace_live.proofs.Named.{accepted, called}
 use Rattle.trace_live.proofs.Parts.{Covers}
 use Rattle.trace_live.proofs.Telling.{AllStand, Allowed, Grows, May, allowed_on, grows_both, grows_none, grows_right, rounds_stand, same_head, same_tail, stands_silent}
 use Rattle.trace_live.proofs.Telling as T
@@ -51,7 +52,8 @@ called_entries : (places : List Place) → count_by is_callback (entries_of plac
 called_entries [] = refl
 called_entries (p ∷ places) =
     sum_by-cons (λ (e : Entry). cond (is_callback e) 1 0) p.entry (entries_of places)
-    ∙ (ap (λ n. cond (is_called p.entry.reply) 1 0 + n) (called_entries places) ∙ sym (sum_by-cons (λ (q : Place). cond (is_called q.entry.reply) 1 0) p places))
+    ∙ (ap (λ b. cond b 1 0 + count_by is_callback (entries_of places)) (called p.entry.reply)
+    ∙ (ap (λ n. cond (is_called p.entry.reply) 1 0 + n) (called_entries places) ∙ sym (sum_by-cons (λ (q : Place). cond (is_called q.entry.reply) 1 0) p places)))
 
 reply_at : {B : Type 0} (read : Entry → B) (places : List Place) (q : Place) (i : ℕ) → slice_get places i ≡ Some q → option_map read (slice_get (entries_of places) i) ≡ Some (read q.entry)
 reply_at read places q i is = ap (option_map read) (slice_get-map (λ (p : Place). p.entry) places i ∙ ap (option_map (λ (p : Place). p.entry)) is)
@@ -64,7 +66,7 @@ module _ (given : List (ℕ × Rule)) (rounds : ℕ) where
   may_be places r v (T.May.refused e q w is step goes turned) =
       subst (MayBeTold given rounds (steps_of places) (entries_of places) r) (sym e)
       (V.MayBeTold.refused is.0 w (slice_get-map (λ (p : Place). p.step) places is.0 ∙ (ap (option_map (λ (p : Place). p.step)) is.1 ∙ ap Some step)) goes
-      (reply_at (λ (x : Entry). is_accepted x.reply) places q is.0 is.1 ∙ ap Some turned))
+      (reply_at (λ (x : Entry). is_accepted x.reply) places q is.0 is.1 ∙ ap Some (accepted q.entry.reply ∙ turned)))
 
   -- why a verdict is told
   abbrev IsToldSo : List Step → List Entry → ℕ → ℕ → Verdict → Type 0

@@ -8,7 +8,7 @@ use Rattle.trace_live.specs.declared.line.Line.{Line}
 use Rattle.trace_live.specs.declared.line.Line.TheVariants.{Submit, Call}
 use Rattle.trace_live.specs.declared.queue.Coming.{Coming}
 use Rattle.crossbeam_channel.specs.Claims.{Pass, view}
-use Rattle.trace_live.specs.Calls.{calls_by, handle_of, steps_in}
+use Rattle.trace_threads.specs.Calls.{calls_by, handle_of, steps_in}
 
 -- the step that a line says; a submission is that of its callback's handle
 abbrev pub said_by : {Q : Type 0} → Line Q → Step

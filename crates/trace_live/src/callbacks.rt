@@ -3,7 +3,7 @@
 ghost use Rattle.std.specs.Prelude.{◌≡◌, ◌+◌, ◌*◌, ◌^◌, ◌++◌, ◌∷◌, [], IfOk, OnOk, filter, if◌then◌else◌};
 ghost use Rattle.std.specs.List.Sorted.{IsNonDecreasingBy, IsPermutation};
 ghost use Rattle.usb_journal.specs.Booked.{entries_of};
-ghost use Rattle.trace_live.specs.Callbacks.{is_callback, rank};
+ghost use Rattle.trace_threads.specs.Callbacks.{is_callback, rank};
 
 use std::alloc::{AllocError, Global};
 use usb_journal::Place;

@@ -3,7 +3,7 @@
 ghost use Rattle.std.specs.Prelude.{◌≡◌, ◌<◌, ◌∷◌, [], IfOk, IfSome, length, replicate};
 ghost use Rattle.usb_model.specs.World.Plans.{rules_after};
 ghost use Rattle.trace_live.specs.Lines.{AreDealt, ArePlanned, call_in, dealt, said_by_each};
-ghost use Rattle.trace_live.specs.Verdicts.{AreGiven, ruled};
+ghost use Rattle.trace_threads.specs.Verdicts.{AreGiven, ruled};
 
 use crate::line::Line;
 use crate::planned::{Planned, PlannedCallback};

@@ -9,25 +9,18 @@
 //! - `handles.rt`, `queue.rt`, `line.rt`: each handle with its channel, and its thread; the channel; a line
 //! - `planned.rt`: callbacks that answer by the rules of their handles' submissions
 //! - `callbacks.rt`, `unfinished.rt`: what callbacks were told, out of a journal, and sorted; what never completed, out of the core
-//! - specs/Callbacks, Unfinished: the same as definitions
-//! - specs/Calls, Lines: which calls a run has; what lines say, and how they are dealt to their handles
-//! - specs/Verdicts: the submissions of a plan with their rules, and why a verdict may be told
-//! - proofs/: Queues, Driving, Dealing and Submissions, of one line more; Workers, of what workers make; Parts, Shares and CallsMade: the
+//! - specs/Lines: what lines say, and how they are dealt to their handles
+//! - proofs/: Named, of the words of `trace_threads`; Queues, Driving, Dealing and Submissions, of one line more; Workers, of what workers make; Parts, Shares and CallsMade: the
 //!   journal taken apart by its callers, of whom one at most makes a handle's calls; Telling and Verdicts: what the worker tells that handles
 //!   events, place by place, and so in the journal
 //!
 //! # Contracts
 //!
-//! - `perform` of `trace_live`: what it gives is what callbacks were told in a run of the definitions over the devices, all of it and
-//!   nothing else, by handle and number (`AreCallbacks`); in that run stand the plan's calls, each handle's in order and no others, and
-//!   beside them only what workers do (`HasCalls`); each verdict in it is told behind what its callback was told, and is what the rule of one
-//!   of the handle's submissions answers to that; or it is Stop, where more than `rounds` callbacks were told something, or where the
-//!   resubmission that a verdict asked for was refused (`AreToldSo`); and, of the world where it ends, all that handles hadn't finished of their transfers
-//!   (`unfinished_in`), where nothing is left to be done (`IsAtRest` of usb_library): no packet, order, event, result or callback
+//! - `Live`, which performs plans in threads of a runtime: what it gives is what `Performer` of `trace_threads` promises (`IsPerformed`)
 //!
 //! The lines of each handle stand in a channel that is filled before its thread starts: one under a rule, whose only pass goes with it
 //! into the thread and knows what is in it. What the workers do is passed over. The submissions of the plan are a name of a type
-//! (`Planned`), which is made for each call of `perform`: so the type of a callback says that its rule is one of its handle's.
+//! (`Planned`), which is made for each performance: so the type of a callback says that its rule is one of its handle's.
 #![tactic(auto)]
 
 mod callbacks;
@@ -38,4 +31,4 @@ mod planned;
 mod queue;
 mod unfinished;
 
-pub use performance::{Performance, perform};
+pub use performance::Live;

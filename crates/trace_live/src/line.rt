@@ -4,7 +4,7 @@ ghost use Rattle.std.specs.Prelude.{◌≡◌, ◌∷◌, ◌++◌, [], IfNone, 
 ghost use Rattle.usb_model.specs.World.Plans.{first_rule, rules_after, rules_past};
 ghost use Rattle.usb_journal.specs.Booked.{steps_of};
 ghost use Rattle.trace_live.specs.Lines.{call_in, said_by};
-ghost use Rattle.trace_live.specs.Verdicts.{AreGiven, ruled};
+ghost use Rattle.trace_threads.specs.Verdicts.{AreGiven, ruled};
 
 use crate::planned::{Planned, PlannedCallback};
 use std::alloc::AllocError;

@@ -3,8 +3,8 @@
 ghost use Rattle.std.specs.Prelude.{◌≡◌, All, IfOk, IsOk, List};
 ghost use Rattle.usb_model.specs.declared.step.Step.{Step};
 ghost use Rattle.usb_core.specs.Public.{setup_of};
-ghost use Rattle.trace_live.specs.Unfinished.{IsPerformed};
-ghost use Rattle.trace_live.specs.Verdicts.{ruled};
+ghost use Rattle.trace_threads.specs.Unfinished.{IsPerformed};
+ghost use Rattle.trace_threads.specs.Verdicts.{ruled};
 
 use crate::callbacks::callbacks_of;
 use crate::handles::{Handle, handles_of};
@@ -14,22 +14,12 @@ use std::alloc::{AllocError, Global};
 use std::marker::Brand;
 use std::sync::Wait;
 use std::thread::Threads;
-use trace_run::Left;
+use trace_threads::{Performance, Performer};
 use usb_core::Setup;
-use usb_device::Scripted;
+use usb_device::{Scripted, TableDevice};
 use usb_journal::Journal;
-use usb_model::{Entry, Plan, Rule, Sequence};
+use usb_model::{Plan, Rule, Sequence};
 use usb_workers::{Gates, Lived, Open, live_gated};
-
-/// What came of a plan that was performed.
-#[derive(Drop)]
-pub struct Performance {
-    /// What the callbacks were told, by handle and number.
-    pub told: Vec<Entry>,
-    /// What the handles hadn't finished when the library ended, by handle: transfers that their devices don't end, and whatever orders,
-    /// events, results and callbacks were left. Open devices, held interfaces, halts and unused answers aren't among it.
-    pub unfinished: Vec<Left>,
-}
 
 /// An error where a handle's thread was refused memory.
 fn are_made(left: Vec<Result<(), AllocError>>) -> Result<(), AllocError>
@@ -48,7 +38,7 @@ fn are_made(left: Vec<Result<(), AllocError>>) -> Result<(), AllocError>
 /// called then is at its end, whatever its rule: so a run that would go on for ever ends, and more than `rounds` lines are given. An error
 /// where memory is refused, to whichever thread, or a thread can't be made. So where none is told, nothing was left to be done: no packet, no order, no
 /// event, no result and no callback.
-pub fn perform<D: Scripted + Send, R: Threads + Wait + Sync>(
+fn perform<D: Scripted + Send, R: Threads + Wait + Sync>(
     rt: &R,
     alloc: Global,
     setup: Setup<D>,
@@ -97,4 +87,34 @@ fn perform_given<Q: Planned + Send, D: Scripted + Send, R: Threads + Wait + Sync
         told: callbacks_of(alloc, kept.places(alloc)?)?,
         unfinished: unfinished_in(alloc, core)?,
     })
+}
+
+/// Performs plans in threads of a runtime. It is ready where they may share that.
+#[derive(Drop)]
+pub struct Live<'a, R> {
+    rt: &'a R,
+}
+
+impl<'a, R> Live<'a, R> {
+    /// In threads of this runtime.
+    pub fn new(rt: &'a R) -> Live<'a, R> {
+        Live { rt }
+    }
+}
+
+impl<R: Threads + Wait + Sync> Performer for Live<'_, R> {
+    ghost use denote.Param.Send.{IsSync};
+
+    ghost ready = { λ live. IsSync R.row };
+
+    fn perform(
+        &self,
+        alloc: Global,
+        setup: Setup<TableDevice>,
+        plan: Sequence<Plan>,
+        rules: &[Rule],
+        rounds: u64,
+    ) -> Result<Performance, AllocError> {
+        perform(self.rt, alloc, setup, plan, rules, rounds)
+    }
 }

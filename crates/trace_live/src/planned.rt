@@ -1,7 +1,7 @@
 //! Callbacks that answer by the rules of a plan.
 
 ghost use Rattle.std.specs.Prelude.{◌≡◌};
-ghost use Rattle.trace_live.specs.Verdicts.{IsRuleOf};
+ghost use Rattle.trace_threads.specs.Verdicts.{IsRuleOf};
 
 use std::marker::{Brand, Model, PhantomData};
 use usb_core::{Callback, Due};
@@ -33,7 +33,7 @@ pub(crate) struct PlannedCallback<Q: Planned> {
 impl<Q: Planned> Model for PlannedCallback<Q> {
     ghost use Rattle.std.specs.Prelude.{ℕ};
     ghost use Rattle.usb_model.specs.declared.verdict.Rule.{Rule};
-    ghost use Rattle.trace_live.specs.Verdicts.{IsRuleOf};
+    ghost use Rattle.trace_threads.specs.Verdicts.{IsRuleOf};
 
     ghost Value = { ℕ × Rule };
 
@@ -86,7 +86,7 @@ pub(crate) struct ItsHandle<Q: Planned> {
 
 impl<Q: Planned> Suiting<PlannedCallback<Q>> for ItsHandle<Q> {
     ghost use Rattle.std.specs.Prelude.{◌≡◌};
-    ghost use Rattle.trace_live.specs.Verdicts.{IsRuleOf};
+    ghost use Rattle.trace_threads.specs.Verdicts.{IsRuleOf};
 
     ghost suits = { λ c h. (c.0 ≡ h) × IsRuleOf Q.given c.0 c.1 };
 }

@@ -5,11 +5,11 @@ ghost use Rattle.std.specs.List.{filter};
 ghost use Rattle.usb_model.specs.Setup.{Setup as ModelSetup};
 ghost use Rattle.usb_model.specs.World.{World};
 ghost use Rattle.usb_core.specs.Public.{ShowsWorld};
-ghost use Rattle.trace_run.specs.Left.{all_left};
-ghost use Rattle.trace_live.specs.Unfinished.{is_unfinished};
+ghost use Rattle.trace_left.specs.Left.{all_left};
+ghost use Rattle.trace_threads.specs.Unfinished.{is_unfinished};
 
 use std::alloc::{AllocError, Global};
-use trace_run::{Left, Thing, left_behind};
+use trace_left::{Left, Thing, left_behind};
 use usb_core::Core;
 use usb_device::Scripted;
 

@@ -5,13 +5,13 @@ use Rattle.usb_model.specs.declared.step.Step.{Step}
 use Rattle.usb_model.specs.declared.verdict.Rule.{Rule}
 use Rattle.usb_model.specs.Setup.{Setup}
 use Rattle.usb_model.specs.World.{new_world, world_from}
-use Rattle.usb_library.specs.Calls.{IsAtRest}
-use Rattle.trace_run.specs.declared.left.Left.{Left}
-use Rattle.trace_run.specs.LeftText.{lines_left}
-use Rattle.trace_live.specs.Callbacks.{AreCallbacks}
-use Rattle.trace_live.specs.Calls.{HasCalls}
-use Rattle.trace_live.specs.Unfinished.{IsPerformed, unfinished_in}
-use Rattle.trace_live.specs.Verdicts.{AreToldSo, ruled}
+use Rattle.trace_threads.specs.AtRest.{IsAtRest}
+use Rattle.trace_left.specs.declared.left.Left.{Left}
+use Rattle.trace_left.specs.LeftText.{lines_left}
+use Rattle.trace_threads.specs.Callbacks.{AreCallbacks}
+use Rattle.trace_threads.specs.Calls.{HasCalls}
+use Rattle.trace_threads.specs.Unfinished.{IsPerformed, unfinished_in}
+use Rattle.trace_threads.specs.Verdicts.{AreToldSo, ruled}
 use Rattle.trace_scenario.specs.declared.scenario.Scenario.{Scenario}
 use Rattle.trace_main.specs.Lived.{IsLived, unfinished_text}
 

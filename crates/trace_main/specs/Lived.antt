@@ -12,12 +12,12 @@ use Rattle.usb_model.specs.Text.{lines_text}
 use Rattle.trace_scenario.specs.declared.line.Line.{Line}
 use Rattle.trace_scenario.specs.declared.line.Line.TheVariants.{Piece}
 use Rattle.trace_scenario.specs.Line.{line_of_text}
-use Rattle.trace_live.specs.Callbacks.{AreCallbacks}
-use Rattle.trace_live.specs.Calls.{HasCalls}
-use Rattle.trace_live.specs.Unfinished.{unfinished_in}
-use Rattle.trace_live.specs.Verdicts.{AreToldSo, ruled}
-use Rattle.trace_run.specs.LeftText.{lines_left}
-use Rattle.usb_library.specs.Calls.{IsAtRest}
+use Rattle.trace_threads.specs.Callbacks.{AreCallbacks}
+use Rattle.trace_threads.specs.Calls.{HasCalls}
+use Rattle.trace_threads.specs.Unfinished.{unfinished_in}
+use Rattle.trace_threads.specs.Verdicts.{AreToldSo, ruled}
+use Rattle.trace_left.specs.LeftText.{lines_left}
+use Rattle.trace_threads.specs.AtRest.{IsAtRest}
 use Rattle.trace_io.specs.Faults.{IsOfRun}
 use Rattle.trace_io.specs.Output.{AppendsSome}
 use Rattle.trace_io.specs.declared.fault.Fault.{Fault}

@@ -10,7 +10,8 @@
 //!
 //! - `program.rt`, specs/Program: `trace`, over any reader and writers
 //! - `source.rt`, specs/Source: the scenario that a text stands for, itself or as a test, and the numbers of its lines
-//! - `live.rt`, `lived.rt`, specs/Lived: a scenario run in threads, and which lines it can't have
+//! - `live.rt`, `lived.rt`, specs/Lived: a scenario run in threads, and which lines it can't have; who performs it is handed in (`Performer` of
+//!   `trace_threads`)
 //! - `checked.rt`, `told.rt`, `tested.rt`, `picture.rt`: what is wrong with a scenario, and what its run refuses; its run with
 //!   its reasons or its packets, as a test, and as a picture or a page
 //! - `judged.rt`: a run, and behind it what it wrote that isn't as expected

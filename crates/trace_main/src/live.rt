@@ -14,25 +14,25 @@ use crate::lived::lived;
 use crate::source::{Opened, Source};
 use std::alloc::Global;
 use std::io::Write;
-use std::sync::Wait;
-use std::thread::Threads;
 use trace_io::Fault;
 use trace_io::print::print;
-use trace_live::{Performance, perform};
-use trace_run::{TaskEnd, lines_of};
+use trace_left::lines_of;
+use trace_run::TaskEnd;
 use trace_scenario::Scenario;
+use trace_threads::{Performance, Performer};
 use usb_core::scripted_setup;
 
 /// Runs a scenario in threads, and prints what its callbacks were told, by handle and number; nothing where more than so many are
 /// called. The notes are then the lines of what handles hadn't finished.
-fn live_scenario<T: Threads + Wait + Sync, W: Write>(
-    rt: &T,
+fn live_scenario<P: Performer, W: Write>(
+    performer: &P,
     alloc: Global,
     scenario: Scenario,
     rounds: u64,
     out: &mut W,
     notes: &mut Vec<u8>,
 ) -> Result<TaskEnd, Fault>
+    requires ready { P.ready performer.now }
     requires runnable { IsRunnable scenario }
     requires none { notes.old.items ≡ [] }
     ensures lines { OnOk result (AppendsCallbacks scenario rounds notes.new.items (W.contents out.old) (W.contents out.new)) }
@@ -44,8 +44,7 @@ fn live_scenario<T: Threads + Wait + Sync, W: Write>(
 {
     let Scenario { setup, plan, rules } = scenario;
     let devices = scripted_setup(alloc, setup)?;
-    let Performance { told, unfinished } = perform(
-        rt,
+    let Performance { told, unfinished } = performer.perform(
         alloc,
         devices,
         plan,
@@ -65,14 +64,15 @@ fn live_scenario<T: Threads + Wait + Sync, W: Write>(
 /// Runs the scenario of a text in threads, and prints what its callbacks were told, by handle and number; nothing where a
 /// line is bad, or more than so many are called. The notes are then the lines of what handles hadn't finished.
 #[tactic(auto, using(crate::proofs::Begun::nothing_of, crate::proofs::Words::silent_same, crate::proofs::Words::silent_of))]
-pub(crate) fn live<T: Threads + Wait + Sync, W: Write>(
-    rt: &T,
+pub(crate) fn live<P: Performer, W: Write>(
+    performer: &P,
     alloc: Global,
     text: &[u8],
     rounds: u64,
     out: &mut W,
     notes: &mut Vec<u8>,
 ) -> Result<TaskEnd, Fault>
+    requires ready { P.ready performer.now }
     requires short { length text.now ≤ longest_input }
     requires none { notes.old.items ≡ [] }
     ensures ends { Performs (Live rounds) text.now notes.new.items (W.contents out.old) (W.contents out.new) result }
@@ -83,5 +83,12 @@ pub(crate) fn live<T: Threads + Wait + Sync, W: Write>(
     ensures begun { Begins (Live rounds) text.now (W.contents out.old) (W.contents out.new) }
 {
     let Opened { source, first } = Source::open(alloc, text)?;
-    live_scenario(rt, alloc, lived(alloc, &source, first)?, rounds, out, notes)
+    live_scenario(
+        performer,
+        alloc,
+        lived(alloc, &source, first)?,
+        rounds,
+        out,
+        notes,
+    )
 }

@@ -30,12 +30,11 @@ use clap::Error;
 use clap::error::ErrorKind;
 use std::alloc::Global;
 use std::io::{Read, Write};
-use std::sync::Wait;
-use std::thread::Threads;
 use trace_io::{Fault, Task, read_whole, read_words, write_bytes};
 use trace_picture::Form;
 use trace_run::{TaskEnd, capture_run};
 use trace_scenario::Lined;
+use trace_threads::Performer;
 
 /// The status of a run that ended early, of a check that found bad lines, and of a capture without devices.
 const FAILED: u8 = 1;
@@ -49,15 +48,16 @@ const UNEXPECTED: u8 = 3;
 /// Runs the program on its words, of which the first is its name, and its input, and answers its status: 0, or 1 where
 /// it ended early, a check found bad lines or a capture has no device that is kept, or 2 for bad words, or 3 where a run wrote something else than its scenario expects. However a task ends, what it wrote is a beginning of
 /// its text. Of a fault that ended it, the message stands on standard error, as far as that takes it; and behind it, or alone, what
-/// handles hadn't finished of a run in threads. The threads of that are those of `rt`.
-pub fn trace<T: Threads + Wait + Sync, R: Read, W: Write, E: Write>(
-    rt: &T,
+/// handles hadn't finished of a run in threads. Threads are the performer's.
+pub fn trace<P: Performer, R: Read, W: Write, E: Write>(
+    performer: &P,
     alloc: Global,
     words: &[&str],
     input: &mut R,
     out: &mut W,
     err: &mut E,
 ) -> u8
+    requires ready { P.ready performer.now }
     ensures status { result ≤ 3 }
     ensures unexpected { result ≡ 3 → (task : Task) × AskFor (words_of words.now) task
         × IfSome (R.remaining input.old) (λ text. FindsUnexpected task text (W.contents out.old) (W.contents out.new)) }
@@ -80,7 +80,7 @@ pub fn trace<T: Threads + Wait + Sync, R: Read, W: Write, E: Write>(
     match read_words(alloc, words) {
         Ok(task) => {
             let mut notes = Vec::new(alloc);
-            let ended = perform(rt, alloc, task, input, out, &mut notes);
+            let ended = perform(performer, alloc, task, input, out, &mut notes);
             status_of(ended, notes.as_slice(), err)
         }
         Err(error) => answer(&error, out, err),
@@ -144,15 +144,16 @@ fn tell_notes<E: Write>(notes: &[u8], err: &mut E)
 
 /// Reads the input and does the task. What is to be told behind all else is put into the notes.
 #[tactic(auto, using(crate::proofs::Begun::nothing_begun))]
-fn perform<T: Threads + Wait + Sync, R: Read, W: Write>(
-    rt: &T,
+fn perform<P: Performer, R: Read, W: Write>(
+    performer: &P,
     alloc: Global,
     task: Task,
     input: &mut R,
     out: &mut W,
     notes: &mut Vec<u8>,
 ) -> Result<TaskEnd, Fault>
-    requires { notes.old.items ≡ [] }
+    requires ready { P.ready performer.now }
+    requires none { notes.old.items ≡ [] }
     ensures ends { IfSome (R.remaining input.old) (λ text. Performs task text notes.new.items (W.contents out.old) (W.contents out.new) result) }
     ensures quiet { IsThreaded task ⊎ (notes.new.items ≡ []) }
     ensures alone { IfErr result (IsAlone notes.new.items) }
@@ -168,7 +169,7 @@ fn perform<T: Threads + Wait + Sync, R: Read, W: Write>(
         Task::Steps => steps(alloc, text.as_slice(), out),
         Task::Packets { steps } => packets(alloc, steps, text.as_slice(), out),
         Task::Alone(h) => alone(alloc, text.as_slice(), h, out),
-        Task::Live(rounds) => live(rt, alloc, text.as_slice(), rounds, out, notes),
+        Task::Live(rounds) => live(performer, alloc, text.as_slice(), rounds, out, notes),
         Task::Left => left(alloc, text.as_slice(), out),
         Task::Check => report(alloc, text.as_slice(), out),
         Task::Draw { from, to } => drawn(alloc, text.as_slice(), Form::Picture, from, to, out),

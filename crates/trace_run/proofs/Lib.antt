@@ -1,9 +1,3 @@
-mod Lists
-pub mod Turns
-mod Events
-mod Joined
-mod ReadParts
-pub mod Gathers
 mod Printed
 mod Lined
 mod Captured

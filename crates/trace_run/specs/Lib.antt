@@ -1,6 +1,3 @@
-pub mod Left
-pub mod LeftText
-pub mod Gathered
 pub mod Printed
 pub mod Stepwise
 pub mod Capture

@@ -13,8 +13,8 @@ use Rattle.trace_scenario.specs.declared.scenario.Scenario.{Scenario}
 use Rattle.trace_capture.specs.Event.{file_bytes}
 use Rattle.trace_scenario.specs.DeviceLines.{device_lines}
 use Rattle.trace_scenario.specs.StepLines.{step_lines}
-use Rattle.trace_run.specs.Left.{all_left}
-use Rattle.trace_run.specs.LeftText.{lines_left}
+use Rattle.trace_left.specs.Left.{all_left}
+use Rattle.trace_left.specs.LeftText.{lines_left}
 use Rattle.trace_run.specs.declared.lines.Reach.{Reach}
 use Rattle.trace_run.specs.declared.lines.Reach.TheVariants.{End, NoMemory}
 use Rattle.trace_run.specs.declared.tasks.TaskEnd.{TaskEnd}

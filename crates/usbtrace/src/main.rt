@@ -1,10 +1,9 @@
-//! The program `usbtrace`: runs and checks scenarios of USB transfers. What its words ask for `trace_command` does.
+//! The program `usbtrace`: runs and checks scenarios of USB transfers. What its words ask for `trace_command` does; plans in threads `trace_live`
+//! performs. Whole runs of the built program are tried by tools/usbtrace_test.py.
 //!
 //! # Files
 //!
 //! - `main.rt`: the process's words and streams
-//! - `tests.rt`: whole runs of the program: long ones, and lines of every form; streams that fail, files of descriptors, and what crosses
-//!   crates
 #![tactic(auto)]
 
 ghost use Rattle.std.specs.Prelude.{◌≡◌, ℕ, List, map, IfOk, string_bytes};
@@ -15,9 +14,7 @@ use std::io::{IsTerminal, Stdout};
 use std::process::ExitCode;
 use std::{env, io};
 use trace_command::{BAD_WORDS, command_line, perform};
-
-#[cfg(test)]
-mod tests;
+use trace_live::Live;
 
 /// The texts of the words.
 fn texts<'a>(alloc: Global, words: &'a [String]) -> Result<Vec<&'a str>, AllocError>
@@ -70,6 +67,7 @@ fn main(rt: HostRuntime) -> ExitCode {
     };
     let (mut input, mut out, mut err) = (rt.stdin(), rt.stdout(), rt.stderr());
     line.is_on_terminal = has_colours(&rt, &out);
-    let status = perform(&rt, alloc, &line, &mut input, &mut out, &mut err);
+    let live = Live::new(&rt);
+    let status = perform(&rt, &live, alloc, &line, &mut input, &mut out, &mut err);
     ExitCode::from(status)
 }

@@ -71,12 +71,23 @@ fn taken_by(alloc: Global, dev: u8) -> Result<Seen> {
     let reader = Reader::new(1, dev, 0)?;
     let mut told = String::new(alloc);
     let setup = written(alloc, &reader, &mut told)?;
+    let (others, whole) = taken(alloc, &setup, reader.dev)?;
     Ok(Seen {
         told,
-        others: packets_of(alloc, &setup, reader.dev, OTHERS)?,
-        whole: packets_of(alloc, &setup, reader.dev, WHOLE)?,
+        others,
+        whole,
         answers: answers(setup),
     })
+}
+
+/// The packets that a device took of a write and of what was sent in its place, and those behind them.
+fn taken(
+    alloc: Global,
+    setup: &Setup<EitherDevice>,
+    dev: DeviceNo,
+) -> Result<(Vec<Vec<u8>>, Vec<Vec<u8>>)> {
+    let others = packets_of(alloc, setup, dev, OTHERS)?;
+    Ok((others, packets_of(alloc, setup, dev, WHOLE)?))
 }
 
 /// The packets that a device took at the endpoint 02, of those with these numbers.

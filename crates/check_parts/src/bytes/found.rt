@@ -50,24 +50,16 @@ pub enum Found {
     Nothing,
 }
 
-/// Writes four bytes, each as two digits.
-fn write_word<W: fmt::Write>(f: &mut fmt::Formatter<W>, word: &[u8]) -> fmt::Result {
-    for byte in word {
+/// Writes a TRB, each byte as two digits, a space between its four words.
+fn write_trb<W: fmt::Write>(f: &mut fmt::Formatter<W>, trb: &[u8; 16]) -> fmt::Result {
+    for (at, byte) in trb.iter().enumerate() {
+        if at > 0 && at % 4 == 0 {
+            f.write_str(" ")?;
+        }
         let value = *byte;
         write!(f, "{value:02x}")?;
     }
     Ok(())
-}
-
-/// Writes a TRB, a space between its four words.
-fn write_trb<W: fmt::Write>(f: &mut fmt::Formatter<W>, trb: &[u8; 16]) -> fmt::Result {
-    write_word(f, &trb[0..4])?;
-    f.write_str(" ")?;
-    write_word(f, &trb[4..8])?;
-    f.write_str(" ")?;
-    write_word(f, &trb[8..12])?;
-    f.write_str(" ")?;
-    write_word(f, &trb[12..16])
 }
 
 /// Writes how an endpoint stands, as `Running`, and behind it the errand and the halt.

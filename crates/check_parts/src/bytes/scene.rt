@@ -44,12 +44,17 @@ pub struct Seen {
 /// Plays a scene. An error where another thing is told or found than it says, or where memory is refused.
 pub fn play(alloc: Global, scene: &Scene) -> Result<Seen> {
     let mut host = Host::new(alloc, scene.size, scene.answers)?;
+    play_blocks(alloc, &mut host, scene.blocks)
+}
+
+/// Plays blocks.
+fn play_blocks(alloc: Global, host: &mut Host, blocks: &[Block]) -> Result<Seen> {
     let mut seen = Seen {
         steps: 0,
         looks: Vec::new(alloc),
     };
-    for block in scene.blocks {
-        play_block(alloc, &mut host, block, &mut seen)?;
+    for block in blocks {
+        play_block(alloc, host, block, &mut seen)?;
     }
     Ok(seen)
 }

@@ -3,7 +3,7 @@ use Rattle.std.proofs.Common.{◌≡◌, ◌∙◌, ◌==◌, ℕ, Bool, List, t
 use Rattle.std.specs.Prelude.{◌&&◌, if◌then◌else◌}
 use Rattle.usb_scripttext.specs.Words.{words_of}
 use Rattle.trace_command.specs.Layer.{TracesInput}
-use Rattle.trace_command.specs.Status.{lenient_status}
+use Rattle.trace_options.specs.Status.{lenient_status}
 use Rattle.trace_command.proofs.program.run_input.Goals as goal
 
 stays : (status : ℕ) → lenient_status status false ≡ status

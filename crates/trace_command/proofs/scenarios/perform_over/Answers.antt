@@ -5,17 +5,17 @@ use Rattle.trace_command.proofs.Traced.{of_input, unread}
 use Rattle.trace_command.proofs.scenarios.perform_over.Goals as goal
 
 pub returns-then-not-takes_scenario : goal.returns-then-not-takes_scenario
-returns-then-not-takes_scenario g c = λ half. c.perform_task.ensures (half c.args.task.now c.requires) half
+returns-then-not-takes_scenario g c = λ half. c.perform_task.ensures (half c.args.task.now c.requires.asked) half
 
 pub returns-in-Err : goal.returns-in-Err
 returns-in-Err g c =
     unread (words_of c.args.words.now) c.args.task.now (g.R.Read.remaining c.args.input.now) (g.W.Write.contents c.args.out.now) (g.E.Write.contents c.args.err.now) (g.E.Write.contents c.tell_fault.new.err) c.in-Err.fault c.tell_fault.result
-    c.tell_fault.ensures.status c.requires c.in-Err.ensures.fault c.tell_fault.ensures.told
+    c.tell_fault.ensures.status c.requires.asked c.in-Err.ensures.fault c.tell_fault.ensures.told
 
 pub returns-in-Ok-perform_scenario : goal.returns-in-Ok-perform_scenario
 returns-in-Ok-perform_scenario g c =
     of_input (words_of c.args.words.now) (g.R.Read.remaining c.args.input.now) c.as_slice.result.now (g.W.Write.contents c.args.out.now) (g.W.Write.contents c.perform_scenario.new.out) (g.E.Write.contents c.args.err.now) (g.E.Write.contents c.perform_scenario.new.err) c.in-Ok-perform_scenario.status
-    (rw c.as_slice.ensures.value c.in-Ok.ensures.whole) (λ half named. c.in-Ok-perform_scenario.ensures.traced (half c.args.task.now c.requires) half named)
+    (rw c.as_slice.ensures.value c.in-Ok.ensures.whole) (λ half named. c.in-Ok-perform_scenario.ensures.traced (half c.args.task.now c.requires.asked) half named)
 
 pub returns : goal.returns
 returns g c =

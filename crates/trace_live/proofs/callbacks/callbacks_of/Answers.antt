@@ -1,6 +1,6 @@
 use Rattle.std.proofs.Common.{rules}
 use Rattle.std.proofs.lemmas.List.Sorted.{IsNonDecreasingBy-from_sort_by_key}
-use Rattle.trace_live.specs.Callbacks.{rank}
+use Rattle.trace_threads.specs.Callbacks.{rank}
 use Rattle.trace_live.proofs.callbacks.callbacks_of.Goals as goal
 
 pub returns-clause-order : goal.returns-clause-order

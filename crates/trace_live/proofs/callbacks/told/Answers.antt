@@ -1,6 +1,6 @@
 use Rattle.std.proofs.Common.{◌∙◌, List, [], ◌∷◌, ◌++◌, ap, sym, if◌then◌else◌}
 use Rattle.usb_model.specs.declared.entry.Entry.{Entry}
-use Rattle.trace_live.specs.Callbacks.{is_callback}
+use Rattle.trace_threads.specs.Callbacks.{is_callback}
 use Rattle.trace_live.proofs.Reports.{told_more}
 use Rattle.trace_live.proofs.callbacks.told.Goals as goal
 

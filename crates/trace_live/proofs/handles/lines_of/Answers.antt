@@ -1,7 +1,7 @@
 use Rattle.std.proofs.Common.{◌≡◌, ◌∙◌, ◌∷◌, ◌++◌, [], length, subst, sym, rules}
 use Rattle.std.specs.Vec.Iter.{into_iter_items}
 use Rattle.trace_live.specs.Lines.{AreDealt, said_by_each}
-use Rattle.trace_live.specs.Verdicts.{AreGiven, ruled}
+use Rattle.trace_threads.specs.Verdicts.{AreGiven, ruled}
 use Rattle.trace_live.proofs.Dealing.{dealt_more, none_dealt, written_back}
 use Rattle.trace_live.proofs.Submissions.{of_piece, of_rest}
 use Rattle.trace_live.proofs.handles.lines_of.Goals as goal

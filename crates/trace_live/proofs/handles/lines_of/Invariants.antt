@@ -1,6 +1,6 @@
 use Rattle.std.specs.Vec.Iter.{into_iter_items}
 use Rattle.trace_live.specs.Lines.{AreDealt, said_by_each}
-use Rattle.trace_live.specs.Verdicts.{AreGiven, ruled}
+use Rattle.trace_threads.specs.Verdicts.{AreGiven, ruled}
 use Rattle.trace_live.proofs.handles.lines_of.Given as goal
 
 abbrev pub invariant-loop-piece : goal.invariant-loop-piece

@@ -1,5 +1,5 @@
 -- The submissions are those of the plan, each with its rule.
-use Rattle.trace_live.specs.Verdicts.{ruled}
+use Rattle.trace_threads.specs.Verdicts.{ruled}
 use Rattle.trace_live.proofs.performance.perform.Given as goal
 
 abbrev pub ghosts-perform_given : goal.ghosts-perform_given

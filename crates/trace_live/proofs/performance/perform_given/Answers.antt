@@ -2,9 +2,10 @@
 use Rattle.std.proofs.Common.{IsOk, rules, subst}
 use Rattle.usb_core.specs.Public.{setup_of}
 use Rattle.usb_journal.specs.Booked.{steps_of, world_where}
-use Rattle.trace_live.specs.Verdicts.{AreToldSo}
+use Rattle.trace_threads.specs.Verdicts.{AreToldSo}
 use Rattle.trace_live.proofs.CallsMade.{has_calls}
 use Rattle.trace_live.proofs.Driving.{all_made}
+use Rattle.trace_live.proofs.Named.{at_rest}
 use Rattle.trace_live.proofs.Verdicts.{answers_so, verdicts_told}
 use Rattle.trace_live.proofs.performance.perform_given.Goals as goal
 
@@ -23,6 +24,6 @@ returns g c =
             (verdicts_told given rounds (λ made. IsOk made) _ all_made setup _ journal _ _ _ kept.by c.in_ok-are_made.ensures c.args.plan c.in_ok-handles.ensures (answers_so given rounds (λ p. p.1)) c.if-lacked_memory.false kept.run.run);
         callbacks = search rules;
         left = c.in_ok-unfinished_in.ensures setup (world_where setup journal) kept.run.is_shown;
-        rest = kept.rest.rests c.if-not-at_rest.false;
+        rest = at_rest setup (world_where setup journal) (kept.rest.rests c.if-not-at_rest.false);
       },
     )

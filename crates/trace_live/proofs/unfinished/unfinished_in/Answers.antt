@@ -1,6 +1,6 @@
 use Rattle.std.proofs.Common.{IfOk, subst, ◌≡◌, ◌∙◌}
 use Rattle.std.specs.List.{filter}
-use Rattle.trace_live.specs.Unfinished.{is_unfinished}
+use Rattle.trace_threads.specs.Unfinished.{is_unfinished}
 use Rattle.trace_live.proofs.unfinished.unfinished_in.Goals as goal
 
 pub returns : goal.returns

@@ -5,7 +5,7 @@ use Rattle.usb_model.specs.Text.{lines_text}
 use Rattle.usb_core.specs.Public.{setup_of}
 use Rattle.trace_io.specs.Output.{AppendsSome}
 use Rattle.std.specs.Io.KnownBytes.{Appends}
-use Rattle.trace_run.specs.LeftText.{lines_left}
+use Rattle.trace_left.specs.LeftText.{lines_left}
 use Rattle.trace_main.proofs.Begun.{none_begun}
 use Rattle.trace_main.proofs.Living.{lived_so, unfinished_so}
 use Rattle.trace_main.proofs.live.live_scenario.Goals as goal

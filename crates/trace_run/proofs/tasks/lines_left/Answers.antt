@@ -6,8 +6,8 @@ use Rattle.usb_model.specs.Setup.{Setup}
 use Rattle.usb_model.specs.World.{new_world, world_from}
 use Rattle.usb_model.specs.World.Plans.{expand}
 use Rattle.usb_core.specs.Public.{setup_of}
-use Rattle.trace_run.specs.Left.{all_left}
-use Rattle.trace_run.specs.LeftText.{lines_left}
+use Rattle.trace_left.specs.Left.{all_left}
+use Rattle.trace_left.specs.LeftText.{lines_left}
 use Rattle.trace_run.proofs.tasks.lines_left.Goals as goal
 
 pub returns : goal.returns

@@ -1,6 +1,6 @@
 use Rattle.std.proofs.Common.{◌∙◌, ◌∷◌, [], ap, subst, sym}
 use Rattle.usb_model.specs.declared.plan.Plan.TheVariants.{Do}
-use Rattle.trace_live.specs.Verdicts.{AreGiven, IsRuleOf, ruled}
+use Rattle.trace_threads.specs.Verdicts.{AreGiven, IsRuleOf, ruled}
 use Rattle.trace_live.proofs.Submissions.{of_submission}
 use Rattle.trace_live.proofs.line.Line.of.Goals as goal
 

@@ -1,7 +1,0 @@
--- The paths so far were tested one behind the other.
-use Rattle.std.proofs.Common.{◌≡◌, false, take}
-use Rattle.trace_command.specs.Tests.{CountsPaths}
-use Rattle.trace_command.proofs.testing.Testing.test_all.Given as goal
-
-abbrev pub invariant-loop-file : goal.invariant-loop-file
-invariant-loop-file g l = l.initial.self.counting.is_update ≡ false → CountsPaths (take l.file-index l.files) l.initial.self.counting l.self.counting × (l.self.counting.is_update ≡ false)

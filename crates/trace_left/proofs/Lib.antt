@@ -1,0 +1,6 @@
+mod Lists
+pub mod Turns
+mod Events
+mod Joined
+mod ReadParts
+pub mod Gathers

@@ -1,0 +1,5 @@
+pub mod AtRest
+pub mod Callbacks
+pub mod Calls
+pub mod Unfinished
+pub mod Verdicts
