@@ -123,6 +123,23 @@ def a_reset_does_not_begin_it_anew(trial: Trial) -> None:
     holds(trial, trial.text(), "lasts 0", "script 0 81 d:0102030405060708 d:0102030405060708 d:0910")
 
 
+def answers_at_two_endpoints_keep_their_order(trial: Trial) -> None:
+    """A report comes behind a status, though the read of reports is in flight all the time. Without the line it comes while the command is
+    written, and the program ends with status 38."""
+    device, order = trial.folder / "two.txt", "after 0 83 1 81 1"
+    scripts = ["script 0 81 d:00", "script 0 02 a", "script 0 83 d:01 d:02"]
+    device.write_text("".join(f"{line}\n" for line in [f"device 0 {CONFIG}", "ids 0 1209 0001", *scripts, order]))
+    ran = subprocess.run([RUN, device, "--", RECORD, "-o", trial.capture, "--", trial.program, "at two"], capture_output=True, check=False)
+    trial.check(ran.returncode == 0, f"the recording: {ran.stderr!r}")
+    trial.expect(trial.go(kind="at two"), 0)
+    for seed in range(1, 6):
+        trial.expect(trial.go("--seed", str(seed), kind="at two"), 0)
+    lines = trial.text()
+    holds(trial, lines, order)
+    device.write_text("".join(f"{line}\n" for line in lines if line != order))
+    trial.expect(trial.run("two.txt", "--", str(trial.program), "at two"), 38)
+
+
 def seeds_say_how_to_run_again(trial: Trial) -> None:
     trial.expect(trial.go("--seeds", "1-3", "--device", "1209:0001"), 0, "3 runs, 0 failed")
     trial.expect(trial.go("--seeds", "1-1", "--device", "1209:0001", kind="nothing"), 1, "run.pcap --seed 1 --device 1209:0001 -- ")
@@ -332,7 +349,8 @@ TEXT_TRIALS: List[Callable[[Trial], None]] = [
     windows_captures_are_read, what_windows_does_not_record_is_nothing, requests_on_windows_are_read,
 ]
 TRIALS: List[Callable[[Trial], None]] = [
-    a_recorded_run_is_made_again, a_reset_does_not_begin_it_anew, seeds_say_how_to_run_again, another_run_differs, other_forms_are_read,
+    a_recorded_run_is_made_again, a_reset_does_not_begin_it_anew, answers_at_two_endpoints_keep_their_order, seeds_say_how_to_run_again,
+    another_run_differs, other_forms_are_read,
     what_it_lacks_is_told, who_is_left_out_is_told, descriptors_complete_it, a_device_folder_completes_it, umockdev_completes_it,
     what_is_there_stays, one_device_is_chosen, wrong_files_are_refused, windows_captures_are_run, *TEXT_TRIALS,
 ]

@@ -130,8 +130,9 @@ struct tally {
     uint64_t came;
 };
 
-/* The answers of an endpoint from this place on wait until `count` packets were taken at `other`, or control requests where that is 0, or
- * transfers ended without an answer where it is the endpoint itself, for IN; or until so many of the requests that are meant came. */
+/* The answers of an endpoint from this place on wait until `count` packets were taken at `other`, or answers given there where that is for
+ * IN, or control requests where it is 0, or transfers ended without an answer where it is the endpoint itself, for IN; or until so many of
+ * the requests that are meant came. */
 struct gate {
     uint32_t place;
     uint8_t other;

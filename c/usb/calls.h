@@ -101,7 +101,8 @@ void give_back(struct device *device);
 /* gates.c: answers that wait for what is to happen elsewhere */
 int learn_gates(struct device *device);
 const struct gate *gate_before(struct pipe *pipe);
-uint64_t came_at(const struct device *device, uint8_t ep);
+uint64_t packets_taken(const struct pipe *pipe);
+uint64_t came_for(const struct pipe *pipe, const struct gate *gate);
 void count_withdrawn(struct pipe *pipe, enum libusb_transfer_status status, int moved);
 
 /* tallies.c: how often a device was asked for what its answers wait for */

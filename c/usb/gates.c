@@ -1,6 +1,6 @@
-/* Answers that wait (`after` in a device's text): an endpoint's, from some place on, until so many packets were taken at another, or so
- * many control requests came, all or those that are meant, or so many of its own transfers ended without an answer. An endpoint's stand in
- * order of place, and what was reached stays reached: so it looks at each once. */
+/* Answers that wait (`after` in a device's text): an endpoint's, from some place on, until so many packets were taken at another for OUT,
+ * so many answers given at another for IN, so many control requests came, all or those that are meant, or so many of its own transfers
+ * ended without an answer. An endpoint's stand in order of place, and what was reached stays reached: so it looks at each once. */
 #include "bus.h"
 
 #include <stdlib.h>
@@ -47,19 +47,27 @@ int learn_gates(struct device *device)
     return learn_tallies(device);
 }
 
-static bool is_reached(const struct device *device, const struct gate *gate)
+/* Whether so many packets were taken at an endpoint for OUT. */
+static bool has_taken(const struct pipe *pipe, uint64_t count)
 {
     uint8_t none[1];
+    return count <= pipe->took || tirnouch_taken(&pipe->core->slot, pipe->number, pipe->ep, (size_t)(count - pipe->took - 1), none, 0) >= 0;
+}
+
+/* How many answers an endpoint for IN gave, or where they are its own that wait, how many of its transfers ended without one. */
+static uint64_t came_in(const struct pipe *waiting, const struct pipe *other)
+{
+    return other == waiting ? other->withdrawn : other->answers;
+}
+
+static bool is_reached(const struct pipe *pipe, const struct gate *gate)
+{
+    const struct pipe *other = &pipe->device->pipes[place_of(gate->other)];
     if (gate->is_of_requests)
-        return tallied(device, gate->meant) >= gate->count;
-    if (gate->other & LIBUSB_ENDPOINT_IN)
-        return device->pipes[place_of(gate->other)].withdrawn >= gate->count;
-    uint64_t before = gate->other ? device->pipes[place_of(gate->other)].took : 0;
-    if (gate->count <= before)
-        return true;
+        return tallied(pipe->device, gate->meant) >= gate->count;
     if (!gate->other)
-        return device->request_count >= gate->count;
-    return tirnouch_taken(&device->core->slot, device->number_there, gate->other, (size_t)(gate->count - before - 1), none, 0) >= 0;
+        return pipe->device->request_count >= gate->count;
+    return is_in(gate->other) ? came_in(pipe, other) >= gate->count : has_taken(other, gate->count);
 }
 
 /* What an endpoint's next answer waits for; NULL where it waits for nothing. A device that is pulled out waits for nothing, nor does an
@@ -72,7 +80,7 @@ const struct gate *gate_before(struct pipe *pipe)
         const struct gate *gate = &pipe->gates[pipe->gates_passed];
         if (gate->place > pipe->answers)
             return NULL;
-        if (!is_reached(pipe->device, gate))
+        if (!is_reached(pipe, gate))
             return gate;
     }
     return NULL;
@@ -85,26 +93,29 @@ void count_withdrawn(struct pipe *pipe, enum libusb_transfer_status status, int 
         pipe->withdrawn++;
 }
 
-/* How many packets were taken at an endpoint so far, control requests came where that is 0, or transfers ended without an answer where it
- * is one for IN: packets by doubling and halving, since the core tells of one at a time. */
-uint64_t came_at(const struct device *device, uint8_t ep)
+/* How many packets were taken at an endpoint for OUT so far: by doubling and halving, since the core tells of one at a time. */
+uint64_t packets_taken(const struct pipe *pipe)
 {
-    struct gate gate = { .other = ep, .count = 1 };
-    uint64_t least = 0;
-    if (!ep)
-        return device->request_count;
-    if (ep & LIBUSB_ENDPOINT_IN)
-        return device->pipes[place_of(ep)].withdrawn;
-    while (is_reached(device, &gate)) {
-        least = gate.count;
-        gate.count *= 2;
+    uint64_t least = 0, most = 1;
+    while (has_taken(pipe, most)) {
+        least = most;
+        most *= 2;
     }
-    for (uint64_t most = gate.count; most - least > 1;) {
-        gate.count = least + (most - least) / 2;
-        if (is_reached(device, &gate))
-            least = gate.count;
+    while (most - least > 1) {
+        uint64_t amid = least + (most - least) / 2;
+        if (has_taken(pipe, amid))
+            least = amid;
         else
-            most = gate.count;
+            most = amid;
     }
     return least;
+}
+
+/* How much came so far of what a gate of an endpoint's is for, which isn't one of requests with some fields. */
+uint64_t came_for(const struct pipe *pipe, const struct gate *gate)
+{
+    const struct pipe *other = &pipe->device->pipes[place_of(gate->other)];
+    if (!gate->other)
+        return pipe->device->request_count;
+    return is_in(gate->other) ? came_in(pipe, other) : packets_taken(other);
 }

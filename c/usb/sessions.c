@@ -179,7 +179,7 @@ static void count_taken(struct device *device)
             continue;
         if (pipe->is_judged)
             judge(pipe);
-        pipe->took = came_at(device, pipe->ep);
+        pipe->took = packets_taken(pipe);
     }
 }
 

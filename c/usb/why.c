@@ -48,12 +48,13 @@ static void say_gate(struct sentence *it, const struct pipe *pipe, const struct 
         say_gate_of_requests(it, pipe, gate);
         return;
     }
-    uint64_t came = came_at(pipe->device, gate->other);
-    if (gate->other & LIBUSB_ENDPOINT_IN)
+    uint64_t came = came_for(pipe, gate);
+    if (is_in(gate->other) && gate->other == pipe->ep)
         append(it, "%02x waits until %" PRIu64 " transfer%s ended there without an answer, %" PRIu64 " did", pipe->ep, gate->count,
                plural(gate->count), came);
     else if (gate->other)
-        append(it, "%02x waits for packet %" PRIu64 " at %02x, %" PRIu64 " came", pipe->ep, gate->count, gate->other, came);
+        append(it, "%02x waits for %s %" PRIu64 " at %02x, %" PRIu64 " came", pipe->ep, is_in(gate->other) ? "answer" : "packet",
+               gate->count, gate->other, came);
     else
         append(it, "%02x waits for control request %" PRIu64 ", %" PRIu64 " came", pipe->ep, gate->count, came);
 }

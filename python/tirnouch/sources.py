@@ -113,17 +113,26 @@ class TextFault(NamedTuple):
             lines = [self.moved(line, place) for line in lines]
         return Text(lines, self.source.name, self.source.folder, self.source.lenient)
 
+    def counts(self, words: List[str]) -> bool:
+        """Whether a line's fourth word counts answers of this endpoint."""
+        return words[:3] in (["after", str(self.device), f"{self.endpoint:02x}"], ["leaves", str(self.device), f"{self.endpoint:02x}"])
+
+    def waits(self, words: List[str]) -> bool:
+        """Whether it is about answers of another endpoint, which wait for so many of this one, for IN, as its last word says."""
+        address = f"{self.endpoint:02x}"
+        return self.endpoint >= 0x80 and len(words) == 6 and words[:2] == ["after", str(self.device)] and words[4] == address != words[2]
+
     def is_behind(self, line: str, place: int) -> bool:
-        """Whether a line is about answers that aren't there any more."""
+        """Whether a line is about answers that aren't there any more, or waits for one."""
         words = line.split(" ")
-        mine = words[:3] in (["after", str(self.device), f"{self.endpoint:02x}"], ["leaves", str(self.device), f"{self.endpoint:02x}"])
-        return mine and int(words[3]) >= place
+        return (self.counts(words) and int(words[3]) >= place) or (self.waits(words) and int(words[5]) > place)
 
     def moved(self, line: str, place: int) -> str:
         """A line that counts answers, where there is one more at this place."""
         words = line.split(" ")
-        if words[:3] in (["after", str(self.device), f"{self.endpoint:02x}"], ["leaves", str(self.device), f"{self.endpoint:02x}"]):
-            words[3] = str(int(words[3]) + (int(words[3]) > place))
+        at = 3 if self.counts(words) else 5 if self.waits(words) else 0
+        if at:
+            words[at] = str(int(words[at]) + (int(words[at]) > place))
         return " ".join(words)
 
 

@@ -223,6 +223,33 @@ static int resets(void)
     return end();
 }
 
+static void on_report(struct libusb_transfer *transfer)
+{
+    ended++;
+    if (ended == 2 || libusb_submit_transfer(transfer))
+        libusb_free_transfer(transfer);
+}
+
+/* Reports are read all the time. The second one stands behind a status, which is read late: it isn't there while the command before that is
+ * written. */
+static int reads_at_two(void)
+{
+    unsigned char data[8] = { 0 };
+    int moved;
+    begin();
+    struct libusb_transfer *reports = make(REPORTS, 8, on_report, 0);
+    reports->type = LIBUSB_TRANSFER_TYPE_INTERRUPT;
+    if (libusb_submit_transfer(reports))
+        return 37;
+    wait_for(1);
+    if (libusb_bulk_transfer(handle, TO_DEVICE, data, 8, &moved, 1000) || ended != 1)
+        return 38;
+    if (libusb_bulk_transfer(handle, FROM_DEVICE, data, 8, &moved, 1000))
+        return 39;
+    wait_for(2);
+    return end();
+}
+
 /* An isochronous transfer, which isn't recorded. */
 static int is_isochronous(void)
 {
@@ -244,6 +271,7 @@ static const struct {
     { "drops", drops },         { "forks", forks },             { "closes", closes_files },      { "no room", has_no_room },
     { "two", has_two },         { "large", is_large },          { "isochronous", is_isochronous }, { "threads", threads },
     { "another", is_another },  { "resets", resets },         { "bulk", asks_in_bulk },
+    { "at two", reads_at_two },
 };
 
 int main(int count, char **words)

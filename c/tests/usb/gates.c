@@ -1,5 +1,5 @@
-/* Answers that wait for packets elsewhere, for transfers that ended, or for requests: thousands of them take no more each than one (the text's
- * `after`). */
+/* Answers that wait for packets or answers elsewhere, for transfers that ended, or for requests: thousands of them take no more each than
+ * one (the text's `after`). */
 #include "scene.h"
 
 #include <stdio.h>
@@ -110,6 +110,47 @@ static void those_that_got_one_do_not_count(void)
     end();
 }
 
+/* Answers that wait for those of another endpoint for IN, wherever a read was submitted first. */
+static void behind_answers_elsewhere(void)
+{
+    struct libusb_transfer *reads[4];
+    begin("answers behind those of another endpoint",
+          "script 0 83 d:01 d:02\nscript 0 81 d:0a d:0b\nafter 0 81 0 83 1\nafter 0 81 1 83 2\n");
+    reads[0] = submit(0, 0x81, 8);
+    reads[1] = submit(1, 0x81, 8);
+    work();
+    say(calls ? "one is early" : "they wait");
+    reads[2] = submit(2, 0x83, 8);
+    work();
+    say(calls == 2 ? "the second waits" : "not two answers");
+    reads[3] = submit(3, 0x83, 8);
+    work();
+    for (int i = 0; i < 4; i++)
+        discard(reads[i]);
+    end();
+}
+
+/* A read there that ended without an answer doesn't count. */
+static void those_without_one_do_not_count(void)
+{
+    struct libusb_transfer *reads[3], *write;
+    begin("a read elsewhere without an answer",
+          "script 0 02 a\nscript 0 83 d:01\nscript 0 81 d:0a\nafter 0 83 0 02 1\nafter 0 81 0 83 1\n");
+    reads[0] = submit(0, 0x81, 8);
+    reads[1] = submit(1, 0x83, 8);
+    answer("cancel", libusb_cancel_transfer(reads[1]));
+    work();
+    write = submit(2, 0x02, 1);
+    work();
+    say(calls == 2 ? "it waits" : "it didn't wait");
+    reads[2] = submit(3, 0x83, 8);
+    work();
+    for (int i = 0; i < 3; i++)
+        discard(reads[i]);
+    discard(write);
+    end();
+}
+
 /* A request to the device, whose answer is that of the text; a read that waited for it may have its own within the call. */
 static void request(uint8_t type, uint8_t number, uint16_t value, uint16_t index)
 {
@@ -185,6 +226,8 @@ int main(void)
     too_early();
     behind_those_that_ended();
     those_that_got_one_do_not_count();
+    behind_answers_elsewhere();
+    those_without_one_do_not_count();
     behind_requests();
     behind_a_stall();
     many_and_few();

@@ -50,6 +50,15 @@ static void behind_packets(void)
     end();
 }
 
+static void behind_answers(void)
+{
+    begin_log("an answer that waits for another's", "script 0 83 d:01 d:02\nscript 0 81 d:0a\nafter 0 81 0 83 2\n",
+              LIBUSB_LOG_LEVEL_WARNING);
+    read_in_vain(0x83, 8);
+    read_in_vain(0x81, 8);
+    end();
+}
+
 static void behind_requests(void)
 {
     begin_log("an answer that waits for requests", "control 0 40 * * * a\nscript 0 81 d:01\nafter 0 81 0 40 01 * 0203 2\n", LIBUSB_LOG_LEVEL_WARNING);
@@ -164,6 +173,7 @@ int main(void)
 {
     at_the_end();
     behind_packets();
+    behind_answers();
     behind_requests();
     not_ready();
     cancelled();

@@ -31,7 +31,7 @@ static void places(void)
     refuse_text("an endpoint that isn't there", DEVICE "script 0 83 n\n");
     refuse_text("a second script", DEVICE "script 0 81 n\nscript 0 81 n\n");
     refuse_text("answers behind a script's end", DEVICE "script 0 81 n\nafter 0 81 1 02 1\n");
-    refuse_text("answers that wait for another IN endpoint", STANDARD "script 0 81 n\nafter 0 81 0 83 1\n");
+    refuse_text("answers that wait for an endpoint that isn't there", DEVICE "script 0 81 n\nafter 0 81 0 83 1\n");
     refuse_text("a device that lasts for something", DEVICE "lasts 0 1\n");
     refuse_text("a departure behind a script's end", DEVICE "script 0 81 n\nleaves 0 81 2\n");
     refuse_text("a driver of no interface", DEVICE "driver 0 1\n");

@@ -1,7 +1,7 @@
 -- An answer waits for what had been taken when it came, and for no more.
 use Rattle.std.proofs.Common.{◌≡◌, ℕ, ◌+◌, ◌-◌, ◌^◌, ◌<◌, ◌≤◌, ◌==◌, Bool, true, false, List, [], ◌∷◌, ◌++◌, Option, Some, None, length, min, refl, ap, sym, ◌∙◌, subst, arith}
-use Rattle.std.specs.Prelude.{nat_lt, nat_le, not, ◌&&◌, ◌||◌, take, if◌then◌else◌}
-use Rattle.std.specs.List.{AllByRecursion}
+use Rattle.std.specs.Prelude.{nat_lt, nat_le, not, ◌&&◌, ◌||◌, cond, take, if◌then◌else◌}
+use Rattle.std.specs.List.{AllByRecursion, filter}
 use Rattle.std.specs.Option.{unwrap_or}
 use Rattle.std.proofs.lemmas.Bool.{eqb-true, ltb-false}
 use Rattle.usb_model.specs.declared.setup.EndpointInfo.{EndpointInfo}
@@ -21,8 +21,8 @@ use Rattle.trace_recorded.specs.Answers.{answers_of, packets_acknowledged}
 use Rattle.trace_recorded.specs.Endpoints.{counted, ends_halt_by, is_behind_stall, is_own, is_scripted, is_too_large, is_withdrawn, no_answers, submitted, transfer_of, with_answers, with_callback, with_counts, with_end_of, with_event, with_noted, with_own_by, with_places, with_transfer, with_turn}
 use Rattle.trace_recorded.specs.Folds.{after}
 use Rattle.trace_recorded.specs.Tables.{value_at, with_value, without}
-use Rattle.trace_recorded.specs.WaitLaws.{AnswersWait, AreReached, AreTold, IsTold, MayCome, WaitsFor}
-use Rattle.trace_recorded.specs.Waits.{source_number, told_at, told_of, with_wait, with_waits}
+use Rattle.trace_recorded.specs.WaitLaws.{AnswersWait, AreAwaited, AreReached, AreTold, IsTold, MayCome, WaitsFor}
+use Rattle.trace_recorded.specs.Waits.{is_awaited, source_number, told_at, told_of, with_wait, with_waits}
 use Rattle.trace_recorded.proofs.ByKey.{put_apart, put_here, taken_apart}
 
 -- what holds of all in joined lists
@@ -124,9 +124,9 @@ stays_later place later waits le told = λ took may number. told took (sooner wa
 at_places : (taken : List TakenCount) (count : ℕ) (x : RecordedEndpoint) → IsTold x → IsTold (with_places taken count x)
 at_places taken count x h = by_test (not (is_in x.info.address) || ((count == 0) || nat_le longest_script x.count))
   where
-    by_test : (b : Bool) → IsTold (if b then x else record x { waits = with_waits x.count (record { source = source.Endpoint x.info.address; count = x.withdrawn }) taken x.waits })
+    by_test : (b : Bool) → IsTold (if b then x else record x { waits = with_waits x.count (record { source = source.Endpoint x.info.address; count = x.withdrawn; frame = 0 }) taken x.waits })
     by_test true = h
-    by_test false = record { counted = h.counted; told = (waits_for x.count (record { source = source.Endpoint x.info.address; count = x.withdrawn }) taken x.waits h.told).told }
+    by_test false = record { counted = h.counted; told = (waits_for x.count (record { source = source.Endpoint x.info.address; count = x.withdrawn; frame = 0 }) taken x.waits h.told).told }
 
 at_answers : (size clears frame : ℕ) (t : RecordedTransfer) (x : RecordedEndpoint) → IsTold x → IsTold (with_answers size clears frame t x)
 at_answers size clears frame t x h =
@@ -156,11 +156,11 @@ at_transfer taken clears frame t x h = by_test (is_too_large t) (is_behind_stall
         (at_answers x.info.packet_size clears frame t (with_places taken count x) (at_places taken count x h))
 
 at_end : (o : Option RecordedSubmission) (taken : List TakenCount) (event : RecordedEvent) (x : RecordedEndpoint) → IsTold x → IsTold (with_end_of o taken event x)
-at_end (Some s) taken event x h = at_transfer taken s.clears event.frame (transfer_of x.info s event) x h
+at_end (Some s) taken event x h = at_transfer (filter (is_awaited x.info.address s.frame) taken) s.clears event.frame (transfer_of x.info s event) x h
 at_end None taken event x h = by_test event.is_counted
   where
     by_test : (b : Bool) → IsTold (if b then with_callback taken (submitted event x) event x else x)
-    by_test true = at_transfer taken (submitted event x).clears event.frame (transfer_of x.info (submitted event x) event) x h
+    by_test true = at_transfer (filter (is_awaited x.info.address event.frame) taken) (submitted event x).clears event.frame (transfer_of x.info (submitted event x) event) x h
     by_test false = h
 
 at_own : (type : RecordedType) (taken : List TakenCount) (event : RecordedEvent) (x : RecordedEndpoint) → IsTold x → IsTold (with_own_by type taken event x)
@@ -178,9 +178,24 @@ at_event taken event x h = by_test (ends_halt_by event.event_type x.info event.s
     by_test false true = at_own event.event_type taken event x h
     by_test false false = h
 
+-- of those that are waited for among all, each is reached
+reached_all : (p : TakenCount → Bool) (took : ℕ → ℕ) (taken : List TakenCount) → AreReached (filter p taken) took → AllByRecursion (λ (t : TakenCount). p t ≡ true → t.count ≤ took (source_number t.source)) taken
+reached_all p took [] reached = tt
+reached_all p took (t ∷ ts) reached = by_test (p t) refl reached (reached_all p took ts)
+  where
+    all : List TakenCount → Type 0
+    all ts = AllByRecursion (λ (t : TakenCount). p t ≡ true → t.count ≤ took (source_number t.source)) ts
+
+    by_test : (b : Bool) → p t ≡ b → AreReached (cond b (t ∷ filter p ts) (filter p ts)) took → (AreReached (filter p ts) took → all ts) → all (t ∷ ts)
+    by_test true is reached rest = ((λ awaited. reached.0), rest reached.1)
+    by_test false is reached rest = ((λ awaited. let both : false ≡ true = sym is ∙ awaited in absurd cc), rest reached)
+
 pub answers_wait : AnswersWait
 answers_wait = record {
   first = λ info. record { counted = omega arith; told = λ took may number. omega arith };
   next = at_event;
   waits = λ own taken x h. waits_for x.count own taken x.waits h.told;
+  others = λ own taken since x h took may.
+      let awaited : List TakenCount = filter (is_awaited x.info.address since) taken in
+      reached_all (is_awaited x.info.address since) took taken ((waits_for x.count own awaited x.waits h.told).reached took may).1.1;
 }

@@ -1,5 +1,6 @@
 -- What an endpoint of a recorded device answered, from the device's events.
 use Rattle.std.specs.Prelude.{ℕ, ◌+◌, ◌-◌, ◌/◌, ◌%◌, ◌^◌, ◌==◌, min, nat_le, nat_lt, Bool, true, false, not, ◌&&◌, ◌||◌, List, [], ◌++◌, length, take, Option, Some, None, if◌then◌else◌}
+use Rattle.std.specs.List.{filter}
 use Rattle.std.specs.Option.{option_map_or}
 use Rattle.usb_model.specs.declared.setup.EndpointInfo.{EndpointInfo}
 use Rattle.usb_model.specs.Limits.{longest_script, most_bytes}
@@ -20,7 +21,7 @@ use Rattle.trace_recorded.specs.Answers.{answers_of, end_of, packets_acknowledge
 use Rattle.trace_recorded.specs.Tables.{value_at, with_value, without}
 use Rattle.trace_recorded.specs.declared.waits.Source.TheVariants as source
 use Rattle.trace_recorded.specs.declared.waits.TakenCount.{TakenCount}
-use Rattle.trace_recorded.specs.Waits.{no_waits, with_waits}
+use Rattle.trace_recorded.specs.Waits.{is_awaited, no_waits, with_waits}
 use Rattle.trace_recorded.specs.Written.{recorded_answers}
 
 -- so many more are counted; a counter stays at the largest number of 64 bits
@@ -74,7 +75,7 @@ is_too_long _ = false
 
 -- what is kept of a submission: its length, its flags, its bytes, and how often the halt was ended before
 abbrev pub submitted : RecordedEvent → RecordedEndpoint → RecordedSubmission
-submitted event x = record { length = event.length; is_counted = event.is_counted; flags = event.flags; bytes = event.bytes; clears = x.clears }
+submitted event x = record { length = event.length; is_counted = event.is_counted; flags = event.flags; bytes = event.bytes; clears = x.clears; frame = event.frame }
 
 -- how many bytes were asked for: where that wasn't recorded as many as moved, and a packet more where too many came; and how many moved: of a write all, where it was done
 abbrev pub asked_at_least : ℕ → RecordedEvent → ℕ
@@ -118,6 +119,7 @@ with_answers size clears frame transfer x = record x {
   stalled_at = if is_stalled transfer.end then Some clears else x.stalled_at;
   answers = x.answers ++ take (longest_script - length x.answers) (recorded_answers size transfer);
   count = counted x.count (length (answers_of size transfer));
+  answered = if length (answers_of size transfer) == 0 then x.answered else frame;
   next = if (x.next == 0) && nat_lt (longest_script - length x.answers) (length (answers_of size transfer)) then frame else x.next;
   lost = with_noted frame (bytes_lost transfer) x.lost;
   too_long = with_noted frame (reads_too_long transfer) x.too_long;
@@ -127,7 +129,7 @@ with_answers size clears frame transfer x = record x {
 abbrev pub with_places : List TakenCount → ℕ → RecordedEndpoint → RecordedEndpoint
 with_places taken count x =
     if not (is_in x.info.address) || ((count == 0) || nat_le longest_script x.count) then x
-    else record x { waits = with_waits x.count (record { source = source.Endpoint x.info.address; count = x.withdrawn }) taken x.waits }
+    else record x { waits = with_waits x.count (record { source = source.Endpoint x.info.address; count = x.withdrawn; frame = 0 }) taken x.waits }
 
 -- the packets that were taken, or that a read without an answer was withdrawn
 abbrev pub with_counts : ℕ → RecordedTransfer → ℕ → RecordedEndpoint → RecordedEndpoint
@@ -148,9 +150,9 @@ with_transfer taken clears frame transfer x =
     else if is_behind_stall clears transfer x then x
     else with_turn taken clears frame transfer x
 
--- a transfer ended that was submitted so
+-- a transfer ended that was submitted so: of all that was taken and given before, a read's answers wait for what its submission leaves open
 abbrev pub with_callback : List TakenCount → RecordedSubmission → RecordedEvent → RecordedEndpoint → RecordedEndpoint
-with_callback taken s event x = with_transfer taken s.clears event.frame (transfer_of x.info s event) x
+with_callback taken s event x = with_transfer (filter (is_awaited x.info.address s.frame) taken) s.clears event.frame (transfer_of x.info s event) x
 
 -- the same, where its submission was recorded; else the length, the flags and the bytes are those of its callback, where that has a length
 abbrev pub with_end_of : Option RecordedSubmission → List TakenCount → RecordedEvent → RecordedEndpoint → RecordedEndpoint
@@ -172,4 +174,4 @@ with_event taken event x =
 
 -- nothing happened yet
 abbrev pub no_answers : EndpointInfo → RecordedEndpoint
-no_answers info = record { info = info; waiting = []; clears = 0; stalled_at = None; answers = []; count = 0; acknowledged = 0; withdrawn = 0; waits = no_waits; next = 0; lost = no_note; too_long = no_note; left_out = no_note }
+no_answers info = record { info = info; waiting = []; clears = 0; stalled_at = None; answers = []; count = 0; answered = 0; acknowledged = 0; withdrawn = 0; waits = no_waits; next = 0; lost = no_note; too_long = no_note; left_out = no_note }

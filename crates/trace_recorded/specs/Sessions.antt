@@ -1,8 +1,9 @@
 -- What the endpoints of a device answered, over its events in order.
-use Rattle.std.specs.Prelude.{ℕ, ◌+◌, ◌/◌, ◌%◌, ◌==◌, Bool, true, false, not, ◌&&◌, List, [], ◌∷◌, ◌++◌, map, Option, Some, None, if◌then◌else◌}
+use Rattle.std.specs.Prelude.{ℕ, ◌+◌, ◌/◌, ◌%◌, ◌==◌, min, Bool, true, false, not, ◌&&◌, List, [], ◌∷◌, ◌++◌, map, Option, Some, None, if◌then◌else◌}
 use Rattle.std.specs.List.{flat_map}
 use Rattle.std.specs.Option.{unwrap_or}
 use Rattle.usb_model.specs.declared.setup.EndpointInfo.{EndpointInfo}
+use Rattle.usb_model.specs.Limits.{longest_script}
 use Rattle.usb_model.specs.Setup.{is_in}
 use Rattle.trace_capture.specs.declared.control_setup.ControlSetup.{ControlSetup}
 use Rattle.trace_recorded.specs.declared.endpoint.RecordedEndpoint.{RecordedEndpoint}
@@ -26,9 +27,12 @@ abbrev pub special_request : RecordedType → Option ControlSetup → Option Con
 special_request Submission (Some setup) = if is_special setup then Some setup else None
 special_request _ setup = None
 
--- what an endpoint took: packets, where it is for OUT
+-- how many packets an endpoint took, where it is for OUT; else how many answers of its script it gave
+abbrev pub count_at : RecordedEndpoint → ℕ
+count_at x = if is_in x.info.address then min x.count longest_script else x.acknowledged
+
 abbrev pub takes : RecordedEndpoint → List TakenCount
-takes x = if is_in x.info.address then [] else record { source = source.Endpoint x.info.address; count = x.acknowledged } ∷ []
+takes x = record { source = source.Endpoint x.info.address; count = count_at x; frame = x.answered } ∷ []
 
 -- how many requests like this were submitted
 abbrev pub asked : ControlSetup → RecordedSession → ℕ
@@ -37,12 +41,12 @@ asked setup s = unwrap_or (value_at (key_of setup) s.requests) 0
 -- the last request that isn't a standard one, by how many like it there were
 abbrev pub asked_last : Option ControlSetup → RecordedSession → List TakenCount
 asked_last None s = []
-asked_last (Some setup) s = record { source = source.Requests setup; count = asked setup s } ∷ []
+asked_last (Some setup) s = record { source = source.Requests setup; count = asked setup s; frame = 0 } ∷ []
 
 abbrev pub last_taken : RecordedSession → List TakenCount
 last_taken s = asked_last s.last s
 
--- what was taken so far: by each endpoint, and of the last request
+-- what was taken and given so far: at each endpoint, and of the last request
 abbrev pub taken_of : RecordedSession → List TakenCount
 taken_of s = flat_map takes s.endpoints ++ last_taken s
 

@@ -1,6 +1,7 @@
 -- Which answers of an endpoint wait for what.
-use Rattle.std.specs.Prelude.{ℕ, ◌+◌, nat_lt, List, [], ◌∷◌, ◌++◌, if◌then◌else◌}
+use Rattle.std.specs.Prelude.{ℕ, ◌+◌, ◌==◌, nat_lt, Bool, true, not, ◌&&◌, ◌||◌, List, [], ◌∷◌, ◌++◌, if◌then◌else◌}
 use Rattle.std.specs.Option.{unwrap_or}
+use Rattle.usb_model.specs.Setup.{is_in}
 use Rattle.trace_recorded.specs.declared.waits.Source.{Source}
 use Rattle.trace_recorded.specs.declared.waits.Source.TheVariants as source
 use Rattle.trace_recorded.specs.declared.waits.TakenCount.{TakenCount}
@@ -14,6 +15,15 @@ use Rattle.trace_recorded.specs.Tables.{value_at, with_value, without}
 abbrev pub source_number : Source → ℕ
 source_number (source.Endpoint ep) = ep
 source_number (source.Requests setup) = 256 + key_of setup
+
+-- whether a read at an endpoint waits for it, which was submitted in this packet of the capture: at another endpoint for IN for answers of which the last
+-- came since, for what had come before is there by itself; for what endpoints for OUT took; and for requests
+abbrev pub is_awaited_of : ℕ → ℕ → ℕ → Source → Bool
+is_awaited_of ep since frame (source.Endpoint other) = not (is_in other) || (not (other == ep) && nat_lt since frame)
+is_awaited_of ep since frame (source.Requests setup) = true
+
+unfoldable pub is_awaited : ℕ → ℕ → TakenCount → Bool
+is_awaited ep since taken = is_awaited_of ep since taken.frame taken.source
 
 -- for how much answers wait that were told, by the number of what is counted
 abbrev pub told_at : ℕ → Waits → ℕ

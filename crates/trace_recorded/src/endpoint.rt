@@ -13,7 +13,7 @@ use crate::note::Noted;
 use crate::submission::{RecordedSubmission, copied};
 use crate::table::ByNumber;
 use crate::transfer::RecordedTransfer;
-use crate::waits::{Source, TakenCount, Waits};
+use crate::waits::{Source, TakenCount, Waits, awaited};
 use std::alloc::{AllocError, Global};
 use std::mem;
 use usb_model::limits::LONGEST_SCRIPT;
@@ -34,6 +34,8 @@ pub(crate) struct RecordedEndpoint {
     pub(crate) answers: Sequence<RecordedAnswer>,
     /// How many there are.
     pub(crate) count: u64,
+    /// The packet of the capture that has the last one; 0 where there is none.
+    pub(crate) answered: u64,
     /// How many packets that were written were acknowledged.
     pub(crate) acknowledged: u64,
     /// How many reads the host made end before they had an answer.
@@ -76,6 +78,7 @@ impl RecordedEndpoint {
             stalled_at: None,
             answers: Sequence::new(alloc),
             count: 0,
+            answered: 0,
             acknowledged: 0,
             withdrawn: 0,
             waits: Waits::new(alloc),
@@ -100,6 +103,7 @@ impl RecordedEndpoint {
             flags: event.flags,
             bytes: copied(alloc, event.bytes.as_slice())?,
             clears: self.clears,
+            frame: event.frame,
         })
     }
 
@@ -156,13 +160,16 @@ impl RecordedEndpoint {
         if self.next == 0 && count > room {
             self.next = frame;
         }
+        if count > 0 {
+            self.answered = frame;
+        }
         self.count = self.count.saturating_add(count as u64);
         self.lost = self.lost.with(frame, transfer.bytes_lost());
         self.too_long = self.too_long.with(frame, transfer.reads_too_long());
         Ok(())
     }
 
-    /// The answers of a read are to be put behind the others: they wait for what was taken so far.
+    /// The answers of a read are to be put behind the others: they wait for this.
     fn wait(&mut self, taken: &[TakenCount], count: usize) -> Result<(), AllocError>
         ensures { IfOk result (λ _. self.new ≡ with_places taken.now count self.old) }
     {
@@ -173,6 +180,7 @@ impl RecordedEndpoint {
         let own = TakenCount {
             source: Source::Endpoint(self.info.address),
             count: self.withdrawn,
+            frame: 0,
         };
         self.waits.put_all(place, own, taken)
     }
@@ -248,8 +256,9 @@ impl RecordedEndpoint {
     {
         let clears = submitted.clears;
         let info = self.info;
+        let awaited = awaited(alloc, info.address, submitted.frame, taken)?;
         let transfer = submitted.into_transfer(alloc, &info, event)?;
-        self.end(alloc, taken, clears, event.frame, &transfer)
+        self.end(alloc, awaited.as_slice(), clears, event.frame, &transfer)
     }
 
     /// A transfer was called back, of which this submission was recorded, if any.

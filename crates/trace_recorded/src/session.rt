@@ -4,7 +4,7 @@ ghost use Rattle.std.specs.Prelude.{◌≡◌, ◌++◌, [], IfOk, map};
 ghost use Rattle.std.specs.List.{flat_map};
 ghost use Rattle.trace_recorded.specs.Endpoints.{with_event};
 ghost use Rattle.trace_recorded.specs.Folds.{after};
-ghost use Rattle.trace_recorded.specs.Sessions.{asked, is_special, last_taken, no_session, session_of, special_request, taken_of, takes, with_endpoint, with_request, with_session_event};
+ghost use Rattle.trace_recorded.specs.Sessions.{asked, count_at, is_special, last_taken, no_session, session_of, special_request, taken_of, takes, with_endpoint, with_request, with_session_event};
 
 use crate::endpoint::{RecordedEndpoint, is_scripted};
 use crate::event::{RecordedEvent, RecordedType};
@@ -14,6 +14,7 @@ use crate::waits::{Source, TakenCount};
 use std::alloc::{AllocError, Global};
 use std::mem;
 use trace_capture::ControlSetup;
+use usb_model::limits::LONGEST_SCRIPT;
 use usb_model::{EndpointInfo, Sequence};
 
 /// What the endpoints of a device answered, as far as its events were read.
@@ -45,23 +46,35 @@ fn special_request(event: &RecordedEvent) -> Option<ControlSetup>
     }
 }
 
-/// Puts behind others what an endpoint took, if it is one for OUT.
+/// How many packets an endpoint took, if it is one for OUT; else how many answers of its script it gave.
+fn count_at(endpoint: &RecordedEndpoint) -> u64
+    ensures { result ≡ count_at endpoint.now }
+{
+    if endpoint.info.address.is_in() {
+        endpoint.count.min(LONGEST_SCRIPT as u64)
+    } else {
+        endpoint.acknowledged
+    }
+}
+
+/// Puts behind others what an endpoint took, or gave.
 fn push_taken(
     taken: &mut Sequence<TakenCount>,
     endpoint: &RecordedEndpoint,
 ) -> Result<(), AllocError>
     ensures { IfOk result (λ _. taken.new ≡ taken.old ++ takes endpoint.now) }
 {
-    let ep = endpoint.info.address;
-    if ep.is_in() {
-        return Ok(());
-    }
-    let source = Source::Endpoint(ep);
-    let count = endpoint.acknowledged;
-    taken.push(TakenCount { source, count })
+    let source = Source::Endpoint(endpoint.info.address);
+    let count = count_at(endpoint);
+    let frame = endpoint.answered;
+    taken.push(TakenCount {
+        source,
+        count,
+        frame,
+    })
 }
 
-/// What endpoints took.
+/// What endpoints took, or gave.
 fn taken_by(
     alloc: Global,
     endpoints: &[RecordedEndpoint],
@@ -139,6 +152,7 @@ impl RecordedSession {
             Some(setup) => taken.push(TakenCount {
                 source: Source::Requests(setup),
                 count: self.asked(setup),
+                frame: 0,
             }),
             None => Ok(()),
         }

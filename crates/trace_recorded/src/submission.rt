@@ -21,6 +21,8 @@ pub(crate) struct RecordedSubmission {
     pub(crate) bytes: Bytes,
     /// How often the endpoint's halt was ended before.
     pub(crate) clears: u64,
+    /// The packet of the capture that has it.
+    pub(crate) frame: u64,
 }
 
 /// How many bytes a transfer asked for, where that wasn't recorded: as many as moved, and a packet more where too many came.

@@ -1,8 +1,9 @@
 //! Which answers of an endpoint wait for what.
 
 ghost use Rattle.std.specs.Prelude.{◌≡◌, IfOk};
+ghost use Rattle.std.specs.List.{filter};
 ghost use Rattle.trace_recorded.specs.Folds.{after};
-ghost use Rattle.trace_recorded.specs.Waits.{no_waits, source_number, told_of, with_wait, with_waits};
+ghost use Rattle.trace_recorded.specs.Waits.{is_awaited, no_waits, source_number, told_of, with_wait, with_waits};
 
 use crate::key::key_of;
 use crate::table::ByNumber;
@@ -10,10 +11,10 @@ use std::alloc::{AllocError, Global};
 use trace_capture::ControlSetup;
 use usb_model::{EpAddr, Sequence};
 
-/// What is counted of what a device took.
+/// What is counted of what moved at a device.
 #[derive(Clone, Copy)]
 pub(crate) enum Source {
-    /// Packets at an endpoint for OUT; at one for IN, reads that were withdrawn.
+    /// Packets at an endpoint for OUT. At one for IN answers, where another's wait for them; or withdrawn reads, where its own do.
     Endpoint(EpAddr),
     /// Control requests of this one's type, number, value and index.
     Requests(ControlSetup),
@@ -31,13 +32,45 @@ impl Source {
     }
 }
 
-/// How much was taken of something.
+/// How much was taken or given of something.
 #[derive(Clone, Copy)]
 pub(crate) struct TakenCount {
     /// Of what.
     pub(crate) source: Source,
     /// How much.
     pub(crate) count: u64,
+    /// The packet of the capture that has the last answer of an endpoint; 0 for none.
+    pub(crate) frame: u64,
+}
+
+impl TakenCount {
+    /// Whether a read at an endpoint waits for it, which was submitted in this packet of the capture: for answers at another endpoint for IN
+    /// where one came since, and for all that is no answer.
+    #[tactic(auto, unfolding(crate::specs::Waits::is_awaited))]
+    fn is_awaited(&self, ep: EpAddr, since: u64) -> bool
+        ensures { result ≡ is_awaited ep since self.now }
+    {
+        match self.source {
+            Source::Endpoint(other) if other.is_in() => other != ep && since < self.frame,
+            _ => true,
+        }
+    }
+}
+
+/// Those of these for which a read at an endpoint waits that was submitted in this packet of the capture.
+pub(crate) fn awaited(
+    alloc: Global,
+    ep: EpAddr,
+    since: u64,
+    taken: &[TakenCount],
+) -> Result<Vec<TakenCount>, AllocError>
+    ensures { IfOk result (λ awaited. awaited.items ≡ filter (is_awaited ep since) taken.now) }
+{
+    taken
+        .iter()
+        .filter(|count| count.is_awaited(ep, since))
+        .copied()
+        .collect(alloc)
 }
 
 /// The answers from a place on wait until so much was taken of something.

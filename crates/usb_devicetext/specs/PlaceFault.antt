@@ -14,7 +14,7 @@ use Rattle.usb_devicetext.specs.declared.word.Speed.{Speed}
 use Rattle.usb_devicetext.specs.declared.word.Speed.TheVariants.{Full, High, Low}
 use Rattle.usb_devicetext.specs.Form.{word_at}
 use Rattle.usb_devicetext.specs.FormFault.{topic_in}
-use Rattle.usb_devicetext.specs.Sense.{answer_count, has_speed, takes_packets}
+use Rattle.usb_devicetext.specs.Sense.{answer_count, has_speed, moves_at}
 use Rattle.usb_devicetext.specs.Word.{speed_of}
 
 -- the device of a line, among some
@@ -36,10 +36,6 @@ has_room d ep = is_free (endpoint_id ep) d.scripts
 abbrev pub has_interface : DeviceSetup → ℕ → Bool
 has_interface d i = list_any (λ k. k == i) d.config.interfaces
 
--- whether the two addresses of a line of six words, those at 2 and 4, are one
-abbrev pub names_one : List (List ℕ) → Bool
-names_one words = option_map_or (λ ep. option_map_or (λ other. other == ep) (address_of (word_at words 4)) false) (address_of (word_at words 2)) false
-
 -- when each is so
 abbrev pub FitsPlace : PlaceFault → List DeviceSetup → List (List ℕ) → Type 0
 FitsPlace (fault.Turn next) devices words =
@@ -49,7 +45,7 @@ FitsPlace fault.NoEndpoint devices words = at_endpoint has_endpoint devices word
 FitsPlace fault.SecondScript devices words = (topic_in words ≡ Some topic.Script) × (at_endpoint has_room devices words 2 ≡ Some false)
 FitsPlace (fault.NoAnswer count) devices words =
     (topic_in words ≡ Some topic.After) × (at_endpoint answer_count devices words 2 ≡ Some (Some count)) × (option_map (λ k. nat_lt k count) (u32_of (word_at words 3)) ≡ Some false)
-FitsPlace fault.NotOut devices words = (topic_in words ≡ Some topic.After) × (length words ≡ 6) × (at_endpoint takes_packets devices words 4 ≡ Some false) × (names_one words ≡ false)
+FitsPlace fault.NoOther devices words = (topic_in words ≡ Some topic.After) × (length words ≡ 6) × (at_endpoint moves_at devices words 4 ≡ Some false)
 FitsPlace (fault.FewAnswers count) devices words =
     (topic_in words ≡ Some topic.Leaves) × (at_endpoint answer_count devices words 2 ≡ Some (Some count)) × (option_map (λ n. nat_le n count) (u32_of (word_at words 3)) ≡ Some false)
 FitsPlace (fault.TooFast speed) devices words =
@@ -69,7 +65,7 @@ place_fault_text fault.NoDevice = codes "no line before this one has the device"
 place_fault_text fault.NoEndpoint = codes "the device has no bulk or interrupt endpoint of this address"
 place_fault_text fault.SecondScript = codes "the endpoint has a script already"
 place_fault_text (fault.NoAnswer count) = codes "answers are counted from 0, and the endpoint's number of them is " ++ decimal count
-place_fault_text fault.NotOut = codes "packets are taken at 00, for control requests, or at a bulk or interrupt OUT endpoint of the device; transfers end without an answer at the endpoint itself"
+place_fault_text fault.NoOther = codes "what an answer waits for is counted at 00, of control requests, and at the device's bulk and interrupt endpoints"
 place_fault_text (fault.FewAnswers count) = codes "the endpoint's number of answers is " ++ decimal count
 place_fault_text (fault.TooFast speed) = speed_text speed
 place_fault_text fault.NoInterface = codes "the device has no interface of this number"
@@ -81,7 +77,7 @@ place_fault_place fault.NoDevice = 1
 place_fault_place fault.NoEndpoint = 2
 place_fault_place fault.SecondScript = 2
 place_fault_place (fault.NoAnswer count) = 3
-place_fault_place fault.NotOut = 4
+place_fault_place fault.NoOther = 4
 place_fault_place (fault.FewAnswers count) = 3
 place_fault_place (fault.TooFast speed) = 2
 place_fault_place fault.NoInterface = 2

@@ -1,11 +1,11 @@
 -- Lines that can't mean anything: what a line of a good form says has to apply to its device, as all lines together describe it, and some things are said once.
-use Rattle.std.specs.Prelude.{ℕ, ◌==◌, nat_le, nat_lt, Bool, true, false, not, ◌&&◌, ◌||◌, List, [], ◌∷◌, ◌++◌, length, slice_get, Option, Some, None, Result, if◌then◌else◌}
+use Rattle.std.specs.Prelude.{ℕ, ◌==◌, nat_le, nat_lt, Bool, true, false, ◌&&◌, ◌||◌, List, [], ◌∷◌, ◌++◌, length, slice_get, Option, Some, None, Result, if◌then◌else◌}
 use Rattle.std.specs.List.{list_all, list_any}
 use Rattle.std.specs.Option.{option_and_then, option_map, option_map_or}
 use Rattle.usb_model.specs.declared.request.Kind.{Kind}
 use Rattle.usb_model.specs.declared.request.Kind.TheVariants.{Bulk, Interrupt}
 use Rattle.usb_model.specs.declared.setup.DeviceSetup.{DeviceSetup}
-use Rattle.usb_model.specs.Setup.{endpoint_id, is_in}
+use Rattle.usb_model.specs.Setup.{endpoint_id}
 use Rattle.usb_scripttext.specs.Words.{says_nothing}
 use Rattle.usb_scripttext.specs.Devices.{takes_script}
 use Rattle.usb_devicetext.specs.declared.line.DeskLine.{DeskLine}
@@ -32,17 +32,18 @@ answer_count d ep = if takes_script d.config ep then option_map length (slice_ge
 abbrev pub has_place : DeviceSetup → DeviceGate → Bool
 has_place d g = option_map_or (nat_lt g.place) (answer_count d g.ep) false
 
--- and until packets were taken at the default control endpoint, or at a bulk or interrupt endpoint for OUT
-abbrev pub takes_packets : DeviceSetup → ℕ → Bool
-takes_packets d ep = (ep == 0) || (takes_script d.config ep && not (is_in ep))
+-- and until requests came at the default control endpoint; until packets were taken at a bulk or interrupt endpoint for OUT, or answers given at
+-- one for IN; until transfers ended without an answer at the endpoint itself
+abbrev pub moves_at : DeviceSetup → ℕ → Bool
+moves_at d ep = (ep == 0) || takes_script d.config ep
 
--- or until transfers ended without an answer at the endpoint itself, or until any requests were made
-abbrev pub can_wait_for : DeviceSetup → ℕ → Awaited → Bool
-can_wait_for d ep (awaited.At other) = (other == ep) || takes_packets d other
-can_wait_for d ep (awaited.Requests pattern) = true
+-- or until any requests were made
+abbrev pub can_wait_for : DeviceSetup → Awaited → Bool
+can_wait_for d (awaited.At other) = moves_at d other
+can_wait_for d (awaited.Requests pattern) = true
 
 abbrev pub can_wait : DeviceSetup → DeviceGate → Bool
-can_wait d g = can_wait_for d g.ep g.awaited
+can_wait d g = can_wait_for d g.awaited
 
 -- a device is pulled out behind as many answers as the endpoint has at most
 abbrev pub has_answers : DeviceSetup → Departure → Bool

@@ -6,10 +6,10 @@ ghost use Rattle.usb_scripttext.specs.Words.{words_of};
 ghost use Rattle.usb_devicetext.specs.declared.topic.Topic.TheVariants as topic;
 ghost use Rattle.usb_devicetext.specs.FormFault.{topic_in};
 ghost use Rattle.usb_devicetext.specs.Sense.{answer_count};
-ghost use Rattle.usb_devicetext.specs.PlaceFault.{FitsPlace, at_endpoint, device_in, has_interface, has_room, names_one, place_fault_place, place_fault_text, speed_text};
+ghost use Rattle.usb_devicetext.specs.PlaceFault.{FitsPlace, at_endpoint, device_in, has_interface, has_room, place_fault_place, place_fault_text, speed_text};
 
 use crate::form::word_at;
-use crate::sense::{answer_count, has_speed, takes_packets};
+use crate::sense::{answer_count, has_speed, moves_at};
 use crate::topic::Topic;
 use crate::word::Speed;
 use std::fmt;
@@ -31,8 +31,8 @@ pub enum PlaceFault {
     SecondScript,
     /// The endpoint has so many answers, and not the one that is meant, counted from 0.
     NoAnswer(usize),
-    /// Packets are neither taken at the default control endpoint, nor at a bulk or interrupt endpoint for OUT; nor is it the endpoint itself.
-    NotOut,
+    /// What answers wait for is neither at the default control endpoint, nor at a bulk or interrupt endpoint.
+    NoOther,
     /// The endpoint has so many answers, which are too few.
     FewAnswers(usize),
     /// An endpoint of the device can't be one at this speed (USB 2.0, 5.7.3, 5.8.3).
@@ -72,8 +72,8 @@ impl fmt::Display for PlaceFault {
                 f,
                 "answers are counted from 0, and the endpoint's number of them is {count}"
             ),
-            PlaceFault::NotOut => f.write_str(
-                "packets are taken at 00, for control requests, or at a bulk or interrupt OUT endpoint of the device; transfers end without an answer at the endpoint itself",
+            PlaceFault::NoOther => f.write_str(
+                "what an answer waits for is counted at 00, of control requests, and at the device's bulk and interrupt endpoints",
             ),
             PlaceFault::FewAnswers(count) => {
                 write!(f, "the endpoint's number of answers is {count}")
@@ -96,7 +96,7 @@ impl PlaceFault {
             | PlaceFault::TooFast(_)
             | PlaceFault::NoInterface => 2,
             PlaceFault::NoAnswer(_) | PlaceFault::FewAnswers(_) => 3,
-            PlaceFault::NotOut => 4,
+            PlaceFault::NoOther => 4,
         }
     }
 
@@ -123,7 +123,7 @@ fn of_topic(devices: &[ScriptedDevice], topic: Topic, words: &[&str]) -> Option<
         Topic::Script => no_endpoint(devices, words).or(second_script(devices, words)),
         Topic::After => no_endpoint(devices, words)
             .or(no_answer(devices, words))
-            .or(not_out(devices, words)),
+            .or(no_other(devices, words)),
         Topic::Leaves => no_endpoint(devices, words).or(few_answers(devices, words)),
         Topic::Speed => too_fast(devices, words),
         Topic::Driver => no_interface(devices, words),
@@ -216,18 +216,8 @@ fn no_answer(devices: &[ScriptedDevice], words: &[&str]) -> Option<PlaceFault>
     }
 }
 
-/// Whether a line's two addresses are one.
-fn names_one(words: &[&str]) -> bool
-    ensures { result ≡ names_one (words_of words.now) }
-{
-    match (address(word_at(words, 2)), address(word_at(words, 4))) {
-        (Ok(ep), Ok(other)) => other == ep,
-        _ => false,
-    }
-}
-
-/// That no packets are taken at the other endpoint of a line that has one, which isn't the endpoint itself.
-fn not_out(devices: &[ScriptedDevice], words: &[&str]) -> Option<PlaceFault>
+/// That nothing moves at the other endpoint of a line that has one.
+fn no_other(devices: &[ScriptedDevice], words: &[&str]) -> Option<PlaceFault>
     requires { topic_in (words_of words.now) ≡ Some topic.After }
     ensures { IfSome result (λ fault. FitsPlace fault devices.now (words_of words.now)) }
 {
@@ -235,9 +225,7 @@ fn not_out(devices: &[ScriptedDevice], words: &[&str]) -> Option<PlaceFault>
         return None;
     }
     match (device_in(devices, words), address(word_at(words, 4))) {
-        (Some(device), Ok(ep)) if !takes_packets(device, ep) && !names_one(words) => Some(
-            PlaceFault::NotOut,
-        ),
+        (Some(device), Ok(ep)) if !moves_at(device, ep) => Some(PlaceFault::NoOther),
         _ => None,
     }
 }

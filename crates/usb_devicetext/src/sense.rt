@@ -6,7 +6,7 @@ ghost use Rattle.usb_devicetext.specs.declared.line.DeskLine.TheVariants as Desk
 ghost use Rattle.std.specs.Option.{option_copied};
 ghost use Rattle.std.specs.Prelude.{Some};
 ghost use Rattle.usb_scripttext.specs.Results.{Becomes};
-ghost use Rattle.usb_devicetext.specs.Sense.{answer_count, applies, applies_to, can_wait, has_answers, has_place, has_speed, is_said, is_same, is_within, subject_of, takes_packets, with_saying, with_subject, with_text};
+ghost use Rattle.usb_devicetext.specs.Sense.{answer_count, applies, applies_to, can_wait, has_answers, has_place, has_speed, is_said, is_same, is_within, moves_at, subject_of, with_saying, with_subject, with_text};
 
 use crate::line::DeskLine;
 use crate::statement::{Awaited, Departure, DeviceGate, Statement};
@@ -194,20 +194,19 @@ pub(crate) fn has_place(device: &ScriptedDevice, gate: &DeviceGate) -> bool
     }
 }
 
-/// Whether packets can be taken there: at the default control endpoint, or at a bulk or interrupt endpoint for OUT.
-pub(crate) fn takes_packets(device: &ScriptedDevice, ep: EpAddr) -> bool
-    ensures { result ≡ takes_packets device.now ep }
+/// Whether something moves there: at the default control endpoint, or at a bulk or interrupt endpoint.
+pub(crate) fn moves_at(device: &ScriptedDevice, ep: EpAddr) -> bool
+    ensures { result ≡ moves_at device.now ep }
 {
-    ep.address() == 0 || (takes_script(&device.config, ep) && !ep.is_in())
+    ep.address() == 0 || takes_script(&device.config, ep)
 }
 
-/// Whether answers can wait for this: for packets that are taken somewhere; at their own endpoint for transfers that end without an answer; for
-/// any requests.
+/// Whether answers can wait for this: for what moves somewhere, or for any requests.
 pub(crate) fn can_wait(device: &ScriptedDevice, gate: &DeviceGate) -> bool
     ensures { result ≡ can_wait device.now gate.now }
 {
     match gate.awaited {
-        Awaited::At(other) => other == gate.ep || takes_packets(device, other),
+        Awaited::At(other) => moves_at(device, other),
         Awaited::Requests(_) => true,
     }
 }

@@ -72,8 +72,8 @@ pub struct Control {
 /// What answers wait for.
 #[derive(Clone, Copy)]
 pub enum Awaited {
-    /// Packets that are taken at this endpoint; at 00 control requests, whichever they are; at the endpoint of the answers itself transfers
-    /// that end there without one.
+    /// Packets that are taken at this endpoint, or answers that are given there, where it is for IN; at 00 control requests, whichever they
+    /// are; at the endpoint of the answers itself, for IN, transfers that end there without one.
     At(EpAddr),
     /// Control requests that this means.
     Requests(Pattern),
@@ -264,7 +264,7 @@ fn gate_statement(
     }))
 }
 
-/// Answers that wait: for packets or transfers at an endpoint, or for requests.
+/// Answers that wait: for packets, answers or transfers at an endpoint, or for requests.
 #[tactic(auto, unfolding(crate::specs::Statement::gate_of))]
 pub(crate) fn gate_line(words: &[&str]) -> Result<Statement, LineFault>
     ensures { ReadsAs result (gate_of (words_of words.now)) }

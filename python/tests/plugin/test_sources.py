@@ -111,6 +111,15 @@ def test_a_fault_is_placed_into_the_script(program: Any, kind: Any, expected: Li
         assert "script 0 81 n d:01 d:02 d:03" in source.lines
 
 
+@pytest.mark.parametrize("kind, expected", [(t.STALL, ["after 0 83 0 81 1", "after 0 83 1 81 3"]), (t.SILENT, ["after 0 83 0 81 1"]),
+                                            (t.UNPLUG, ["after 0 83 0 81 1", "after 0 83 1 81 2"])])
+def test_what_another_endpoint_waits_for(kind: Any, expected: List[str]) -> None:
+    """Of the answers at 81 there is one more before the second, or that isn't there any more, and nothing waits for it."""
+    device = "device 0 0902200001010080320904000002ff0000000705810240000007058302400000"
+    source = t.text(f"{device}\nscript 0 81 d:01 d:02\nscript 0 83 d:0a d:0b\nafter 0 83 0 81 1\nafter 0 83 1 81 2\n")
+    assert [line for line in source.at(0x81, 1).fail(kind).lines if line.startswith("after")] == expected
+
+
 def test_faults_that_cant_be_placed() -> None:
     source = t.text(TEXT)
     refused: Any = ((lambda: source.at(0x81, 3).fail(t.STALL), "has 3 packets, and none of index 3"),
