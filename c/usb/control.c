@@ -205,7 +205,7 @@ static bool end_for_absence(struct transfer *transfer)
     return true;
 }
 
-/* Those to a device that is gone. */
+/* Those to a device that is gone. Each that ends here takes no other along, and nothing is called out to. */
 void end_requests(const struct device *device)
 {
     for (struct transfer *it = process.bus.controls.first, *behind; it; it = behind) {
@@ -235,16 +235,17 @@ static bool answer_control(struct transfer *transfer, bool *waits)
     return !*waits;
 }
 
-/* Serves each device's requests in order, up to the first that isn't ready. Returns whether one completed. */
+/* Serves each device's requests in order, up to the first that isn't ready. Returns whether one completed. One that ends may take others
+ * along, as where its device leaves and comes back as one that is gone: so behind each that ended it begins again at the head. */
 bool answer_controls(void)
 {
     bool any = false, waits[DEVICES] = { false };
     process.bus.again = 0;
-    for (struct transfer *it = process.bus.controls.first, *behind; it; it = behind) {
+    for (struct transfer *it = process.bus.controls.first; it;) {
         const struct device *device = it->handle->device;
-        behind = it->behind;
-        if (device->is_gone || !waits[device->number])
-            any |= answer_control(it, &waits[device->number]);
+        bool is_over = (device->is_gone || !waits[device->number]) && answer_control(it, &waits[device->number]);
+        any |= is_over;
+        it = is_over ? process.bus.controls.first : it->behind;
     }
     return any;
 }

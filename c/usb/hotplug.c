@@ -156,7 +156,7 @@ static void enumerate(struct libusb_context *context, struct hotplug *it)
     let_go_of(context);
 }
 
-/* The context ends. An entry whose callback runs still goes when that is back. */
+/* The context ends. An entry whose callback runs still goes when that is back, and has none behind it any more. */
 void end_hotplugs(struct libusb_context *context)
 {
     struct hotplug *it = context->hotplugs;
@@ -165,6 +165,7 @@ void end_hotplugs(struct libusb_context *context)
     while (it) {
         struct hotplug *next = it->next;
         it->context = NULL;
+        it->next = NULL;
         finish(it);
         it = next;
     }

@@ -248,7 +248,8 @@ static void ask_out(struct transfer *transfer)
 }
 
 /* All that a device has in its core comes out of it, and waits at its endpoints again, before what waits there, in order. What was asked to
- * end ends. The next session of its core goes on with it, as with pieces. */
+ * end ends. The next session of its core goes on with it, as with pieces. Nothing leaves a list while that is walked through: what is asked
+ * out comes out behind the walk. */
 void take_out(struct device *device)
 {
     struct tirnouch_result result;

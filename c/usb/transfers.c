@@ -119,7 +119,8 @@ static void drop_ended(struct libusb_device_handle *handle)
 
 /* What a handle has in progress at an interface, or at all (-1), is cancelled and ends here: it waits for its callback, or is
  * dropped, as libusb has it where a handle is closed. The program may free a dropped one's buffer, which the core has until its result
- * is reaped below. The core writes to it only where a packet is served, and none is between the drop and that. */
+ * is reaped below. The core writes to it only where a packet is served, and none is between the drop and that. A cancel takes that transfer
+ * alone out of the list, and no device is asked: so the next one stays the next. */
 void withdraw(struct libusb_device_handle *handle, int interface, bool drops)
 {
     struct libusb_context *context = handle->context;

@@ -69,6 +69,8 @@ bool serve(struct pipe *pipe, uint32_t most)
     return any;
 }
 
+/* By places, since whoever is asked may leave, and take others along: endpoints come in behind the others meanwhile, and `feed_all` alone
+ * takes some out. */
 static bool serve_all(void)
 {
     struct bus *bus = &process.bus;

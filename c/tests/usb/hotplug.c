@@ -237,6 +237,25 @@ static void two_contexts(void)
     end();
 }
 
+static int on_event_exit(libusb_context *of, libusb_device *device, libusb_hotplug_event event, void *user)
+{
+    on_event(of, device, event, user);
+    libusb_exit(of);
+    return 0;
+}
+
+/* Whoever is behind it isn't told any more. */
+static void exit_within(void)
+{
+    struct timeval none = { 0, 0 };
+    begin_text("the context ends within a callback", text);
+    for (int i = 0; i < 2; i++)
+        libusb_hotplug_register_callback(context, BOTH, 0, ANY, ANY, ANY, on_event_exit, (void *)"the first of two", NULL);
+    tirnouch_show(1);
+    answer("events", libusb_handle_events_timeout(context, &none));
+    number("told", calls);
+}
+
 int main(void)
 {
     come_and_go();
@@ -248,5 +267,6 @@ int main(void)
     deregistered_within();
     refused();
     two_contexts();
+    exit_within();
     return 0;
 }
