@@ -70,8 +70,9 @@ struct transfer {
     uint64_t deadline;                /* a moment in nanoseconds; 0 for none */
     uint8_t *lent;                    /* the memory of that piece, where it reads (`core_submit`) */
     int moved, piece;                 /* bytes of the pieces before, and of the one in the core */
-    unsigned naks;                    /* of a control transfer: how often it was asked, and its device wasn't ready; */
-    uint64_t later;                   /* and before which moment it isn't asked again, 0 for none */
+    unsigned naks;                    /* of a control transfer: how often it was asked, and its device wasn't ready */
+    uint64_t later;                   /* before this moment its device isn't asked, where that is known; 0 for none */
+    uint64_t stir;                    /* its own among the bus's `stirs`: where that isn't settled, its device wasn't asked at all */
     enum stage stage;
     enum ask ask;
     bool is_dropped, is_freed;        /* no callback: its handle was closed; and nobody has it any more */
@@ -282,6 +283,7 @@ struct bus {
     struct transfers controls;
     uint64_t again;                   /* when a request is to be asked again; 0 for none */
     uint64_t stirs, settled;          /* how often there was something to be done, in all buses; and how often when all was done */
+    uint64_t past;                    /* events are handled late: time stands before a deadline, and went back to this moment; else 0 */
     uint64_t moment;                  /* of virtual time; */
     uint64_t begun;                   /* when the bus began */
     bool is_virtual;                  /* time passes only where nothing else is to be done */

@@ -103,7 +103,6 @@ int learn_gates(struct device *device);
 const struct gate *gate_before(struct pipe *pipe);
 uint64_t packets_taken(const struct pipe *pipe);
 uint64_t came_for(const struct pipe *pipe, const struct gate *gate);
-void count_withdrawn(struct pipe *pipe, enum libusb_transfer_status status, int moved);
 
 /* tallies.c: how often a device was asked for what its answers wait for */
 int learn_tallies(struct device *device);
@@ -126,6 +125,7 @@ void take_out(struct device *device);
 bool work_on(bool waits);
 bool work_again(bool waits);
 void work_to_end(void);
+void work_in_past(void);
 bool serve(struct pipe *pipe, uint32_t most);
 bool feed_all(void);
 void settle_all(void);
@@ -163,6 +163,15 @@ struct timespec moment_behind(const struct timeval *wait);
 struct timespec moment_of(uint64_t nanoseconds);
 struct timespec moment_in(uint64_t nanoseconds);
 void expire(struct libusb_context *context);
+
+/* late.c: what was due before a deadline comes before it */
+void catch_up(uint64_t moment);
+uint64_t begun(struct transfer *transfer);
+uint64_t begun_at(const struct pipe *pipe);
+uint64_t moment_asked_at(const struct pipe *pipe);
+uint64_t moment_later(uint64_t asked, int answer);
+uint64_t moment_asked(uint64_t later, uint64_t begun);
+void hold_behind(const struct transfer *transfer, uint64_t moment);
 
 /* events.c */
 void ring(struct libusb_context *context);

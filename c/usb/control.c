@@ -32,8 +32,8 @@ int submit_control(struct transfer *transfer)
     int r = hold(transfer->handle, it->buffer);
     if (r)
         return r;
+    transfer->pipe = NULL;
     transfer->naks = 0;
-    transfer->later = 0;
     transfer->stage = AT_CONTROL;
     join(&process.bus.controls, transfer);
     return 0;
@@ -111,9 +111,10 @@ static int ask(struct transfer *transfer, const uint8_t *setup, uint8_t *data, i
         return answer_by_text(transfer, setup, data, length);
     if (answer != TIRNOUCH_NOT_READY && answer > TIRNOUCH_LATER(0))
         return answer < length ? answer : length;
+    uint64_t again = moment_later(moment_asked(transfer->later, begun(transfer)), answer);
     transfer->naks++;
-    transfer->later = answer == TIRNOUCH_NOT_READY ? 0 : moment_later(answer);
-    look_again(transfer->later ? transfer->later : now() + ASK_AGAIN);
+    transfer->later = answer == TIRNOUCH_NOT_READY && !process.bus.past ? 0 : again;
+    look_again(again);
     return TIRNOUCH_NOT_READY;
 }
 
@@ -124,10 +125,6 @@ static int answer_of(struct transfer *transfer)
     if (!transfer->naks) {
         keep_request(transfer->handle->device, setup, length);
         tally_request(transfer->handle->device, setup);
-    }
-    if (transfer->later > now()) {
-        look_again(transfer->later);
-        return TIRNOUCH_NOT_READY;
     }
     return ask(transfer, setup, setup + SETUP, length);
 }
@@ -221,6 +218,11 @@ static bool answer_control(struct transfer *transfer, bool *waits)
     struct device *device = transfer->handle->device;
     if (is_lost(transfer->handle))
         return end_for_absence(transfer);
+    if (transfer->later && transfer->later > now()) {
+        look_again(transfer->later);
+        *waits = true;
+        return false;
+    }
     bool is_first = !transfer->naks;
     int answer = answer_of(transfer);
     if (answer == TIRNOUCH_GONE)
@@ -228,6 +230,8 @@ static bool answer_control(struct transfer *transfer, bool *waits)
     if (is_lost(transfer->handle))
         return end_for_absence(transfer);
     *waits = answer == TIRNOUCH_NOT_READY;
+    if (process.bus.past && !*waits)
+        hold_behind(transfer, moment_asked(transfer->later, begun(transfer)));
     if (*waits && is_first && process.bus.is_traced)
         trace_wait(device, public_of(transfer)->buffer);
     if (!*waits)

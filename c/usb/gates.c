@@ -86,13 +86,6 @@ const struct gate *gate_before(struct pipe *pipe)
     return NULL;
 }
 
-/* A transfer at an endpoint ended: without an answer, where it was withdrawn before there was one. */
-void count_withdrawn(struct pipe *pipe, enum libusb_transfer_status status, int moved)
-{
-    if (!moved && (status == LIBUSB_TRANSFER_CANCELLED || status == LIBUSB_TRANSFER_TIMED_OUT))
-        pipe->withdrawn++;
-}
-
 /* How many packets were taken at an endpoint for OUT so far: by doubling and halving, since the core tells of one at a time. */
 uint64_t packets_taken(const struct pipe *pipe)
 {

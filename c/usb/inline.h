@@ -72,6 +72,13 @@ static inline int claim_in_passing(struct libusb_device_handle *handle, int inte
     return handle->claimed >> interface & 1 ? 0 : claim_unasked(handle, interface);
 }
 
+/* A transfer at an endpoint ended: without an answer, where it was withdrawn before there was one. */
+static inline void count_withdrawn(struct pipe *pipe, enum libusb_transfer_status status, int moved)
+{
+    if (!moved && (status == LIBUSB_TRANSFER_CANCELLED || status == LIBUSB_TRANSFER_TIMED_OUT))
+        pipe->withdrawn++;
+}
+
 static inline void join(struct transfers *queue, struct transfer *transfer)
 {
     transfer->behind = NULL;

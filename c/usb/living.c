@@ -55,11 +55,6 @@ void tell_device(struct device *device, enum tirnouch_event event, int number)
     end_asking();
 }
 
-uint64_t moment_later(int answer)
-{
-    return now() + (uint64_t)(TIRNOUCH_LATER(0) - (int64_t)answer) * MILLISECOND;
-}
-
 /* Of which kind an answer is. One that means nothing is told, and breaks the transaction. */
 static uint8_t kind_of(const struct pipe *pipe, int answer)
 {
@@ -96,8 +91,10 @@ static bool feed_answer(struct pipe *pipe, int answer, const uint8_t *data)
 
 static bool take_answer(struct pipe *pipe, int answer, const uint8_t *data)
 {
+    uint64_t asked = process.bus.past || answer <= TIRNOUCH_LATER(0) ? moment_asked_at(pipe) : 0;
+    pipe->later = process.bus.past ? asked : 0;
     if (answer == TIRNOUCH_NOT_READY || answer <= TIRNOUCH_LATER(0)) {
-        pipe->later = answer == TIRNOUCH_NOT_READY ? 0 : moment_later(answer);
+        pipe->later = answer == TIRNOUCH_NOT_READY ? 0 : moment_later(asked, answer);
         return false;
     }
     if (answer != TIRNOUCH_GONE)
@@ -122,9 +119,8 @@ bool ask_device(struct pipe *pipe)
     struct tirnouch_offer next = next_packet(pipe, data);
     if (!next.is_asked)
         return core_serves(pipe);
-    if (pipe->later > now())
+    if (pipe->later && pipe->later > now())
         return false;
-    pipe->later = 0;
     int length = (int)next.length;
     return take_answer(pipe, pipe->device->program ? ask_program(pipe->device, pipe->ep, data, length) : ask_function(pipe, data, length),
                        data);
@@ -156,13 +152,18 @@ uint64_t next_ask(void)
     return process.bus.own ? next_ask_of_all() : process.bus.controls.first ? process.bus.again : 0;
 }
 
+/* From now on, and not before where events are handled late. What wasn't asked so far is asked anyway. */
 void ask_at_once(struct device *device)
 {
-    for (int i = 0; i < ENDPOINTS; i++)
-        device->pipes[i].later = 0;
+    uint64_t moment = now();
+    for (int i = 0; i < ENDPOINTS; i++) {
+        struct pipe *pipe = &device->pipes[i];
+        if (pipe->is_asked && (!pipe->later || pipe->later > moment))
+            pipe->later = moment;
+    }
     for (struct transfer *it = process.bus.controls.first; it; it = it->behind)
-        if (it->handle->device == device)
-            it->later = 0;
+        if (it->handle->device == device && it->naks && (!it->later || it->later > moment))
+            it->later = moment;
     process.bus.stirs++;
     for (struct libusb_context *context = process.contexts; context; context = context->next)
         wake(context);

@@ -71,7 +71,6 @@ bool may_be_asked(const struct pipe *pipe);
 void tell_device(struct device *device, enum tirnouch_event event, int number);
 int end_halts(struct device *device);
 int ask_for_request(struct device *device, const uint8_t *setup, uint8_t *data, int length);
-uint64_t moment_later(int answer);
 void learn_living(struct device *device);
 void ask_at_once(struct device *device);
 

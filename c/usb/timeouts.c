@@ -46,24 +46,12 @@ struct timespec moment_behind(const struct timeval *wait)
     return moment_in(nanoseconds_of(wait));
 }
 
-/* Asks those to end whose time is over, and learns when the next one's is. There is a deadline. */
+/* Those end whose time is over. There is a deadline. */
 void expire(struct libusb_context *context)
 {
     uint64_t moment = now();
-    if (moment < context->earliest)
-        return;
-    context->earliest = 0;
-    for (struct transfer *it = context->flying.first, *next; it; it = next) {
-        next = it->next;
-        if (!it->deadline || it->ask)
-            continue;
-        if (it->deadline <= moment) {
-            tell_why(it, "is at the end of its time", true);
-            cancel(it, ASKED_TO_EXPIRE);
-        } else if (!context->earliest || it->deadline < context->earliest) {
-            context->earliest = it->deadline;
-        }
-    }
+    if (moment >= context->earliest)
+        catch_up(moment);
 }
 
 /* Never one: the descriptor of libusb_get_pollfds tells of timeouts too, as on Linux. */

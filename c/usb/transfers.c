@@ -45,10 +45,12 @@ void end_transfer(struct transfer *transfer, enum libusb_transfer_status status,
 {
     struct libusb_context *context = transfer->context;
     bool stays = process.bus.is_ending && !transfer->is_dropped;
-    if (transfer->pipe)
-        count_withdrawn(transfer->pipe, status, moved);
-    if (transfer->pipe && transfer->pipe->cut == transfer)
-        transfer->pipe->cut = NULL;
+    struct pipe *pipe = transfer->pipe;
+    if (pipe) {
+        count_withdrawn(pipe, status, moved);
+        if (pipe->cut == transfer)
+            pipe->cut = NULL;
+    }
     if (!stays)
         take_off(transfer);
     if (transfer->is_dropped) {
@@ -177,17 +179,17 @@ static uint64_t deadline_of(unsigned milliseconds)
     return milliseconds ? now() + (uint64_t)milliseconds * 1000000u : 0;
 }
 
-/* As a new one. Its places in lists are set where it joins them. */
+/* As a new one. Its places in lists are set where it joins them, and its endpoint where that is known. */
 static void begin_anew(struct transfer *transfer, struct libusb_device_handle *handle, uint64_t deadline)
 {
+    transfer->stir = process.bus.stirs + 1;
     transfer->context = handle->context;
     transfer->handle = handle;
-    transfer->pipe = NULL;
-    transfer->number = 0;
     transfer->deadline = deadline;
+    transfer->later = 0;
     transfer->moved = transfer->piece = 0;
     transfer->ask = ASKED_NOTHING;
-    transfer->is_dropped = transfer->is_freed = transfer->is_stalled = false;
+    transfer->is_dropped = transfer->is_freed = transfer->is_stalled = transfer->is_moving = false;
 }
 
 static int submit(struct transfer *transfer)
@@ -209,8 +211,12 @@ static int submit(struct transfer *transfer)
         return r;
     put_on(transfer);
     uint64_t *earliest = &handle->context->earliest;
-    if (transfer->deadline && (!*earliest || transfer->deadline < *earliest))
-        *earliest = transfer->deadline;
+    if (transfer->deadline) {
+        if (!*earliest || transfer->deadline < *earliest)
+            *earliest = transfer->deadline;
+    } else if (*earliest) {
+        transfer->later = now();
+    }
     stir(handle->context);
     return 0;
 }

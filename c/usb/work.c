@@ -111,18 +111,46 @@ void reap_all(void)
     while (reap());
 }
 
-/* All there is to do in one go; whether some was done. */
-static bool work_once(void)
+/* What comes behind the packets that were served; whether some was done. */
+static inline bool go_on_behind(bool any)
 {
-    struct bus *bus = &process.bus;
-    bool any = bus->controls.first && answer_controls();
-    any |= serve_all();
-    if (any || bus->active_count) {
+    if (any || process.bus.active_count) {
         any |= core_settle(ALL);
         any |= reap();
         any |= feed_all();
     }
     return any;
+}
+
+/* All there is to do in one go; whether some was done. */
+static bool work_once(void)
+{
+    bool any = process.bus.controls.first && answer_controls();
+    any |= serve_all();
+    return go_on_behind(any);
+}
+
+/* The same where time stands before a deadline that is over: what was submitted behind that waits. */
+static bool work_once_in_past(void)
+{
+    struct bus *bus = &process.bus;
+    bool any = bus->controls.first && answer_controls();
+    for (size_t i = 0; i < bus->active_count; i++)
+        if (bus->active[i]->in_core && begun_at(bus->active[i]) <= now())
+            any |= serve(bus->active[i], ALL);
+    return go_on_behind(any);
+}
+
+/* All that was due so far, and once more where a device's function says meanwhile that some device is ready, but not for ever. */
+void work_in_past(void)
+{
+    for (int i = 0; i <= DEVICES; i++) {
+        process.bus.is_readied = false;
+        while (work_once_in_past()) {
+        }
+        if (!process.bus.is_readied)
+            break;
+    }
 }
 
 /* A device's function said meanwhile that some device is ready: all are asked once more, but not for ever. */
