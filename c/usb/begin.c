@@ -7,33 +7,32 @@
 /* The size of the options before `keeps_trace` was one of them. */
 #define SIZE_BEFORE offsetof(struct tirnouch_options, keeps_trace)
 
-/* NULL where memory is refused. */
-static char *copy_of(const struct tirnouch_options *options)
+/* Of the text of the options; none where they have none, or memory is refused. */
+static struct text copy_of(const struct tirnouch_options *options)
 {
-    char *copy = malloc(options->devices_length + 1);
-    if (copy)
+    char *copy = options->devices ? malloc(options->devices_length ? options->devices_length : 1) : NULL;
+    if (!copy)
+        return (struct text){ .at = NULL };
+    if (options->devices_length)
         memcpy(copy, options->devices, options->devices_length);
-    return copy;
+    return (struct text){ .at = copy, .end = copy + options->devices_length };
 }
 
 /* The text of `tirnouch_plug`, while that of such a bus stands in its place. */
 static struct {
     bool is_kept;
-    char *text;
-    size_t length;
+    struct text text;
     const char *name;
 } plugged;
 
-static void use_text(char *text, size_t length)
+static void use_text(struct text text)
 {
-    if (!text)
+    if (!text.at)
         return;
     plugged.is_kept = true;
     plugged.text = process.text;
-    plugged.length = process.text_length;
     plugged.name = process.text_name;
     process.text = text;
-    process.text_length = length;
     process.text_name = "the text of tirnouch_begin";
 }
 
@@ -41,9 +40,8 @@ static void take_back_text(void)
 {
     if (!plugged.is_kept)
         return;
-    free(process.text);
+    free_text(&process.text);
     process.text = plugged.text;
-    process.text_length = plugged.length;
     process.text_name = plugged.name;
     plugged.is_kept = false;
 }
@@ -80,20 +78,20 @@ static bool is_bare(void)
 }
 
 /* The text becomes the bus's, or is freed. */
-static int begin_with(char *text, const struct tirnouch_options *options)
+static int begin_with(struct text text, const struct tirnouch_options *options)
 {
     if (!lock_unless_asked()) {
-        free(text);
+        free_text(&text);
         return LIBUSB_ERROR_BUSY;
     }
     int r = process.bus.is_there && !is_bare() ? LIBUSB_ERROR_BUSY : 0;
     if (!r) {
         if (process.bus.is_there)
             bus_end();
-        use_text(text, options->devices_length);
+        use_text(text);
         r = begin_by(options);
     } else {
-        free(text);
+        free_text(&text);
     }
     unlock();
     return r;
@@ -104,8 +102,8 @@ int tirnouch_begin(const struct tirnouch_options *from)
     struct tirnouch_options options;
     if (!read_options(&options, from))
         return LIBUSB_ERROR_INVALID_PARAM;
-    char *text = options.devices ? copy_of(&options) : NULL;
-    if (options.devices && !text)
+    struct text text = copy_of(&options);
+    if (options.devices && !text.at)
         return LIBUSB_ERROR_NO_MEM;
     return begin_with(text, &options);
 }

@@ -26,17 +26,18 @@ static void trace_numbers(const struct desk *desk)
 }
 
 /* The core of those that are scripted, of which the trace has the devices. */
-static int make_shared(const struct desk *desk, const char *text, size_t length)
+static int make_shared(const struct desk *desk, struct text text)
 {
     struct tirnouch_complaint complaint;
-    int r = tirnouch_create(&process.bus.core.slot, (const uint8_t *)text, length, &complaint);
+    const char *at = text.at ? text.at : "";
+    int r = tirnouch_create(&process.bus.core.slot, (const uint8_t *)at, length_of(text), &complaint);
     if (r == LIBUSB_ERROR_INVALID_PARAM) {
-        complain(text, length, desk->text, desk->name, desk->name, 0);
+        complain(text, desk->text, desk->name, desk->name, 0);
         return LIBUSB_ERROR_OTHER;
     }
     if (!r) {
         trace_numbers(desk);
-        trace_devices(&process.bus.core, text, length);
+        trace_devices(&process.bus.core, text);
     }
     return r;
 }
@@ -47,14 +48,14 @@ static int make_core(const struct desk *desk)
     struct growing text = { 0 };
     bool is_mixed = desk->has_own || desk->has_returns;
     if (!is_mixed && !desk->has_expected)
-        return make_shared(desk, desk->text, desk->length);
+        return make_shared(desk, desk->text);
     if (is_mixed)
-        write_lines(&text, desk->text, desk->length, desk->there, NULL);
+        write_lines(&text, desk->text, desk->there, NULL);
     else
-        grow(&text, desk->text, desk->length);
+        grow(&text, desk->text.at, length_of(desk->text));
     if (desk->has_expected && !text.failed)
-        text.length = without_expected(text.at, text.length);
-    int r = text.failed ? LIBUSB_ERROR_NO_MEM : make_shared(desk, text.at ? text.at : "", text.length);
+        leave_out_expected(&text);
+    int r = text.failed ? LIBUSB_ERROR_NO_MEM : make_shared(desk, text_of(&text));
     free(text.at);
     return r;
 }
@@ -102,8 +103,8 @@ static int make_device(struct device *device, const struct desk *desk)
     if (!r)
         r = learn(device);
     if (!r && is_own)
-        return learn_expected(device, device->text, device->text_length, desk->name);
-    return !r && desk->has_expected ? learn_expected(device, desk->text, desk->length, desk->name) : r;
+        return learn_expected(device, device->text, desk->name);
+    return !r && desk->has_expected ? learn_expected(device, desk->text, desk->name) : r;
 }
 
 /* What comes back in another's place isn't there before. */
@@ -114,12 +115,11 @@ static void hide_successors(void)
             process.bus.devices[process.bus.devices[i]->successor]->is_hidden = true;
 }
 
-static int make_devices(const char *text, size_t length, const char *name)
+static int make_devices(struct text text, const char *name)
 {
-    struct desk desk = { .text = text, .length = length, .name = name };
+    struct desk desk = { .text = text, .name = name };
     process.bus.text = text;
-    process.bus.text_length = length;
-    desk.has_expected = has_expected(text, length);
+    desk.has_expected = has_expected(text);
     int r = read_desk(&desk);
     if (!r)
         r = make_core(&desk);
@@ -136,14 +136,14 @@ static int make_devices(const char *text, size_t length, const char *name)
 }
 
 /* The same, of a text that may name files: beside its own file, or in the current folder where that is "". */
-static int make_whole(const char *text, size_t length, const char *name, const char *file)
+static int make_whole(struct text text, const char *name, const char *file)
 {
-    int r = insert_files(&text, &length, name, file);
-    return r ? r : make_devices(text, length, name);
+    int r = insert_files(&text, name, file);
+    return r ? r : make_devices(text, name);
 }
 
-/* A file's bytes; NULL where it can't be read or memory is refused, which is told. */
-static char *read_file(const char *name, size_t *length)
+/* A file's bytes; none where it can't be read or memory is refused, which is told. */
+static struct text read_file(const char *name)
 {
     FILE *file = fopen(name, "rb");
     char *text = NULL;
@@ -158,8 +158,7 @@ static char *read_file(const char *name, size_t *length)
         fclose(file);
     if (!text)
         tell_failure("TIRNOUCH_DEVICES: %s can't be read", name);
-    *length = text ? (size_t)size : 0;
-    return text;
+    return text ? (struct text){ .at = text, .end = text + size } : (struct text){ .at = NULL };
 }
 
 /* A process that begins several buses may have a text for each: that of the second has a name that ends in .2, and so on, up to as many as
@@ -178,14 +177,13 @@ static int begin_devices(void)
 {
     const char *name = getenv("TIRNOUCH_DEVICES");
     char numbered[4096];
-    size_t length = 0;
-    if (process.text)
-        return make_whole(process.text, process.text_length, process.text_name, "");
+    if (process.text.at)
+        return make_whole(process.text, process.text_name, "");
     if (!name || !*name)
-        return make_devices("", 0, "");
+        return make_devices((struct text){ .at = NULL }, "");
     name = name_of_turn(name, numbered, sizeof numbered);
-    process.bus.file_text = read_file(name, &length);
-    return process.bus.file_text ? make_whole(process.bus.file_text, length, name, name) : LIBUSB_ERROR_OTHER;
+    process.bus.file_text = read_file(name);
+    return process.bus.file_text.at ? make_whole(process.bus.file_text, name, name) : LIBUSB_ERROR_OTHER;
 }
 
 static int begin_trace(const struct beginning *so)
@@ -211,8 +209,8 @@ static void clear_bus(void)
         forget(process.bus.devices[i]);
     tirnouch_destroy(&process.bus.core.slot);
     trace_end(&process.bus.core);
-    free(process.bus.file_text);
-    free(process.bus.whole_text);
+    free_text(&process.bus.file_text);
+    free_text(&process.bus.whole_text);
     free(process.bus.trace);
     process.bus = (struct bus){ .stirs = stirs, .settled = stirs };
 }

@@ -49,6 +49,11 @@
 /* More than a device can answer, and the core can have to do, at once. */
 #define ALL (1u << 20)
 
+/* Some text, from its first character to its end, where one may stand or not: both go about together. Of no text both are NULL. */
+struct text {
+    const char *at, *end;
+};
+
 struct core;
 struct device;
 struct judged;
@@ -180,8 +185,7 @@ struct device {
     struct tally *tallies;            /* of requests for which its answers wait, by mask and bytes; NULL for none */
     size_t tally_count;
     struct program *program;          /* what is asked in place of functions; NULL for none */
-    char *text;                       /* its lines, where it has a core of its own, */
-    size_t text_length;
+    struct text text;                 /* its lines, its own, where it has a core of its own, */
     size_t program_lines;             /* of which so many are its program's, before those of the text */
     struct judged *judged;            /* its lines `control`, where one of them expects something of the driver; else NULL */
     struct judged *packets[ENDPOINTS]; /* and what is expected at its endpoints; NULL for nothing */
@@ -270,10 +274,9 @@ struct bus {
     int in_core;                      /* transfers, or pieces of them, in all cores */
     struct core core;                 /* the one that scripted devices share; */
     struct core *own;                 /* and those that have one device each */
-    const char *text;                 /* the devices, as a person wrote them: of tirnouch_plug, or */
-    char *file_text;                  /* of the file, which is the bus's own; */
-    char *whole_text;                 /* and with the bytes of files that it names, the bus's own too; NULL where it names none */
-    size_t text_length;
+    struct text text;                 /* the devices, as a person wrote them: of tirnouch_plug, or */
+    struct text file_text;            /* of the file, which is the bus's own; */
+    struct text whole_text;           /* and with the bytes of files that it names, the bus's own too; none where it names none */
     char *trace;                      /* the name of the trace's file, the bus's own; NULL for none; */
     unsigned trace_number;            /* and what stands behind it, where it is more than 1 */
     bool keeps_trace;                 /* in memory */
@@ -311,8 +314,7 @@ extern struct process {
     struct libusb_device_handle *handles; /* of all buses */
     struct libusb_context nobody;     /* the default context where none is open */
     struct defaults defaults;
-    char *text;                       /* of tirnouch_plug, or tirnouch_begin, */
-    size_t text_length;
+    struct text text;                 /* of tirnouch_plug, or tirnouch_begin, its own, */
     const char *text_name;            /* by which it is told of */
     struct {
         tirnouch_control answer;
@@ -381,6 +383,7 @@ extern _Thread_local int callbacks_within;
 static inline struct libusb_transfer *public_of(struct transfer *transfer) { return (struct libusb_transfer *)(void *)(transfer + 1); }
 static inline struct transfer *private_of(struct libusb_transfer *transfer) { return (struct transfer *)(void *)transfer - 1; }
 
+static inline size_t length_of(struct text text) { return text.at ? (size_t)(text.end - text.at) : 0; }
 static inline bool is_in(uint8_t ep) { return ep & LIBUSB_ENDPOINT_DIR_MASK; }
 static inline unsigned two_bytes(const uint8_t *at) { return (unsigned)at[0] | (unsigned)at[1] << 8; }
 /* An endpoint's place among 32: twice its number, and one more for IN. */

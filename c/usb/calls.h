@@ -208,7 +208,7 @@ bool trace_begin(struct core *core, const struct device *device);
 void trace_end(struct core *core);
 void trace_forget(void);
 void trace_to(struct core *core);
-void trace_devices(struct core *core, const char *text, size_t length);
+void trace_devices(struct core *core, struct text text);
 void trace_text(const char *text);
 void trace_number(uint64_t number);
 void trace_hex(const uint8_t *bytes, int count);

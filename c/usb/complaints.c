@@ -41,18 +41,17 @@ void complain_of(const char *name, const struct line *line, int word, const char
 
 /* The core's own words of the first line of a text that it doesn't take, as it stands in the text that is `shown`, line by line. Of those the
  * first `before` stand elsewhere, which has another name. */
-void complain(const char *text, size_t length, const char *shown, const char *before_name, const char *name, size_t before)
+void complain(struct text text, struct text shown, const char *before_name, const char *name, size_t before)
 {
     char why[256] = "";
     struct tirnouch_complaint complaint = { 0 };
-    int count = tirnouch_complain((const uint8_t *)text, length, (uint8_t *)why, sizeof why - 1, &complaint);
+    int count = tirnouch_complain((const uint8_t *)text.at, length_of(text), (uint8_t *)why, sizeof why - 1, &complaint);
     struct line line = { .number = 0 };
-    size_t at = 0;
     if (count <= 0) {
         tell_failure("%s: a line isn't one of devices (docs/DEVICES.md), and there is no memory to say which", name);
         return;
     }
-    while (next_line(shown, SIZE_MAX / 2, &at, &line) && line.number < complaint.line) {
+    while (next_line(&shown, &line) && line.number < complaint.line) {
     }
     bool is_before = line.number <= before;
     line.number -= is_before ? 0 : before;

@@ -12,16 +12,16 @@
 
 static const char numbers[] = "a device's number stands here, 0 to 15";
 
-/* The line that begins there; false where the text is at its end. */
-bool next_line(const char *text, size_t length, size_t *at, struct line *line)
+/* The first line of what is left of a text, of which the rest is left then; false where nothing is. The last line may have no end. */
+bool next_line(struct text *left, struct line *line)
 {
-    if (*at >= length)
+    if (!length_of(*left))
         return false;
-    const char *end = memchr(text + *at, '\n', length - *at);
-    line->at = text + *at;
-    line->length = end ? (size_t)(end - line->at) : length - *at;
+    const char *end = memchr(left->at, '\n', length_of(*left));
+    line->at = left->at;
+    line->length = (size_t)((end ? end : left->end) - left->at);
     line->number++;
-    *at += line->length + 1;
+    left->at = end ? end + 1 : left->end;
     return true;
 }
 
@@ -145,8 +145,8 @@ static bool read_return(struct desk *desk, const struct line *line)
 static bool read_own_lines(struct desk *desk)
 {
     struct line line = { .number = 0 };
-    size_t at = 0;
-    while (next_line(desk->text, desk->length, &at, &line)) {
+    struct text left = desk->text;
+    while (next_line(&left, &line)) {
         if (has_first_word(&line, "program") && !read_program(desk, &line))
             return false;
         if (has_first_word(&line, "comes") && !read_return(desk, &line))
@@ -181,9 +181,9 @@ static bool number_devices(struct desk *desk)
 {
     struct line line = { .number = 0 };
     bool is_described[DEVICES] = { false };
-    size_t at = 0;
+    struct text left = desk->text;
     int shared = 0;
-    while (next_line(desk->text, desk->length, &at, &line)) {
+    while (next_line(&left, &line)) {
         int device = device_of_line(&line);
         bool describes = begins(&line, "device ");
         if (device < 0)
@@ -204,8 +204,8 @@ static bool number_devices(struct desk *desk)
 static bool are_successors_there(const struct desk *desk)
 {
     struct line line = { .number = 0 };
-    size_t at = 0;
-    while (next_line(desk->text, desk->length, &at, &line))
+    struct text left = desk->text;
+    while (next_line(&left, &line))
         if (has_first_word(&line, "comes") && number_in(&line, 4) >= desk->count)
             return refuse(desk, &line, 4, "no line of the text has the device");
     return true;
@@ -227,7 +227,7 @@ int read_desk(struct desk *desk)
 
 void grow(struct growing *text, const char *bytes, size_t length)
 {
-    if (text->failed)
+    if (text->failed || !length)
         return;
     if (text->room - text->length < length) {
         size_t room = 2 * text->room + length;
@@ -240,6 +240,19 @@ void grow(struct growing *text, const char *bytes, size_t length)
     }
     memcpy(text->at + text->length, bytes, length);
     text->length += length;
+}
+
+/* What has grown so far, which is its owner's still. */
+struct text text_of(const struct growing *it)
+{
+    return it->at ? (struct text){ .at = it->at, .end = it->at + it->length } : (struct text){ .at = NULL };
+}
+
+/* One that is somebody's own; then there is none. */
+void free_text(struct text *text)
+{
+    free((void *)(uintptr_t)text->at);
+    *text = (struct text){ .at = NULL };
 }
 
 /* A line with another number of its device. */
@@ -303,11 +316,11 @@ static bool is_learned_once(const struct line *line)
 
 /* The lines of the devices that have a number `there`, with that, and those of no device; all others are comments, so that the lines keep
  * their places. With `rests` they are for a further session: its answers are what that device has left of them in its core. */
-void write_lines(struct growing *to, const char *text, size_t length, const int there[DEVICES], const struct device *rests)
+void write_lines(struct growing *to, struct text text, const int there[DEVICES], const struct device *rests)
 {
     struct line line = { .number = 0 };
-    size_t at = 0, requests = 0;
-    while (next_line(text, length, &at, &line)) {
+    size_t requests = 0;
+    while (next_line(&text, &line)) {
         int device = device_of_line(&line);
         if (is_for_here(&line) || (device >= 0 && there[device] < 0) || (rests && is_learned_once(&line)))
             grow(to, "#", 1);

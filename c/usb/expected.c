@@ -14,14 +14,14 @@
 #define MOST_ANSWERS 65536
 
 /* Whether a text may have such a word. */
-bool has_expected(const char *text, size_t length)
+bool has_expected(struct text text)
 {
-    return length && memmem(text, length, " a:", 3);
+    return length_of(text) && memmem(text.at, length_of(text), " a:", 3);
 }
 
 static bool is_judged(const struct line *line)
 {
-    return (begins(line, "script ") || begins(line, "control ")) && has_expected(line->at, line->length);
+    return (begins(line, "script ") || begins(line, "control ")) && has_expected((struct text){ line->at, line->at + line->length });
 }
 
 /* How often a word stands, as `a:55*3`: the number behind its first star, 1 to 65,536 without leading zeros; 1 where it is none. */
@@ -67,25 +67,26 @@ static size_t shorten(char *to, const struct line *line)
     return length;
 }
 
-/* Leaves out of a text what the core doesn't read; words and lines keep their places. How long it is then. */
-size_t without_expected(char *text, size_t length)
+/* Leaves out of a text what the core doesn't read; words and lines keep their places. */
+void leave_out_expected(struct growing *text)
 {
     struct line line = { .number = 0 };
-    size_t at = 0, kept = 0;
-    if (!has_expected(text, length))
-        return length;
-    while (next_line(text, length, &at, &line)) {
-        bool is_ended = (size_t)(line.at - text) + line.length < length;
+    struct text left = text_of(text);
+    size_t kept = 0;
+    if (!has_expected(left))
+        return;
+    while (next_line(&left, &line)) {
+        bool is_ended = line.at + line.length < left.at;
         size_t count = line.length;
         if (is_judged(&line))
-            count = shorten(text + kept, &line);
+            count = shorten(text->at + kept, &line);
         else
-            memmove(text + kept, line.at, count);
+            memmove(text->at + kept, line.at, count);
         kept += count;
         if (is_ended)
-            text[kept++] = '\n';
+            text->at[kept++] = '\n';
     }
-    return kept;
+    text->length = kept;
 }
 
 static int digit(char c)
@@ -283,16 +284,15 @@ void forget_expected(struct device *device)
 }
 
 /* A device's lines of a text, which the core has taken; LIBUSB_ERROR_OTHER where one isn't taken here, which is told. */
-int learn_expected(struct device *device, const char *text, size_t length, const char *name)
+int learn_expected(struct device *device, struct text text, const char *name)
 {
     const struct place place = { .device = device, .name = name };
     struct line line = { .number = 0 };
     bool expects_requests = false;
-    size_t at = 0;
     int r = 0;
-    if (!has_expected(text, length))
+    if (!has_expected(text))
         return 0;
-    while (!r && next_line(text, length, &at, &line)) {
+    while (!r && next_line(&text, &line)) {
         if (device_of_line(&line) != device->number)
             continue;
         if (begins(&line, "script "))

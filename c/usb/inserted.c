@@ -202,15 +202,14 @@ static int insert_in_line(struct inserting *it, const struct line *line)
     return 0;
 }
 
-static int insert_in_lines(struct inserting *it, const char *text, size_t length)
+static int insert_in_lines(struct inserting *it, struct text text)
 {
     struct line line = { .number = 0 };
-    size_t at = 0;
-    while (next_line(text, length, &at, &line)) {
+    while (next_line(&text, &line)) {
         int r = insert_in_line(it, &line);
         if (r)
             return r;
-        if (line.at + line.length < text + length)
+        if (line.at + line.length < text.at)
             grow(&it->text, "\n", 1);
     }
     return it->text.failed ? LIBUSB_ERROR_NO_MEM : 0;
@@ -218,18 +217,16 @@ static int insert_in_lines(struct inserting *it, const char *text, size_t length
 
 /* In the text's place the same with the bytes of the files that it names, which is the bus's own; the text itself, where it names none. A file
  * that can't be read, or is too long, is told. */
-int insert_files(const char **text, size_t *length, const char *name, const char *file)
+int insert_files(struct text *text, const char *name, const char *file)
 {
     struct inserting it = { .name = name, .file = file, .left = MOST_OF_FILES };
-    if (!*length || !memchr(*text, '@', *length))
+    if (!length_of(*text) || !memchr(text->at, '@', length_of(*text)))
         return 0;
-    int r = insert_in_lines(&it, *text, *length);
+    int r = insert_in_lines(&it, *text);
     if (r) {
         free(it.text.at);
         return r;
     }
-    process.bus.whole_text = it.text.at;
-    *text = it.text.at;
-    *length = it.text.length;
+    process.bus.whole_text = *text = text_of(&it.text);
     return 0;
 }

@@ -32,9 +32,9 @@ struct judged {
 static inline struct judged *expected_at(const struct pipe *pipe) { return pipe->device->packets[place_of(pipe->ep)]; }
 
 /* expected.c: what a text expects */
-bool has_expected(const char *text, size_t length);
-size_t without_expected(char *text, size_t length);
-int learn_expected(struct device *device, const char *text, size_t length, const char *name);
+bool has_expected(struct text text);
+void leave_out_expected(struct growing *text);
+int learn_expected(struct device *device, struct text text, const char *name);
 void forget_expected(struct device *device);
 
 /* judge.c: what came is compared with it */

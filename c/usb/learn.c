@@ -14,14 +14,13 @@ void forget(struct device *device)
     free_program(device->program);
     free(device->requests);
     free(device->tallies);
-    free(device->text);
+    free_text(&device->text);
     memset(device->pipes, 0, sizeof device->pipes);
     device->core = NULL;
     device->program = NULL;
     device->requests = NULL;
     device->tallies = NULL;
-    device->text = NULL;
-    device->request_count = device->tally_count = device->text_length = 0;
+    device->request_count = device->tally_count = 0;
     device->is_gone = true;
     let_go_of_device(device);
 }

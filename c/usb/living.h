@@ -21,8 +21,8 @@ struct line {
 
 /* The devices of a text, as a person wrote it: which have a core of their own, are programs, come back as others. */
 struct desk {
-    const char *text, *name;
-    size_t length;
+    struct text text;
+    const char *name;
     int count;                        /* of the devices that it has */
     bool has_own, has_returns;
     bool has_expected;                /* some line may say what is expected of the driver */
@@ -40,22 +40,24 @@ struct growing {
 };
 
 /* complaints.c: which line of a text isn't taken, and why */
-void complain(const char *text, size_t length, const char *shown, const char *before_name, const char *name, size_t before);
+void complain(struct text text, struct text shown, const char *before_name, const char *name, size_t before);
 void complain_of(const char *name, const struct line *line, int word, const char *why);
 void append_quoted(struct sentence *it, const char *text, int length);
 void tell_failure(const char *format, ...) __attribute__((format(printf, 1, 2)));
 
 /* desk.c: whose line is whose */
-bool next_line(const char *text, size_t length, size_t *at, struct line *line);
+bool next_line(struct text *left, struct line *line);
 const char *word_of(const char *line, int length, uint32_t index, int *word_length);
 int device_of_line(const struct line *line);
 bool begins(const struct line *line, const char *word);
 int read_desk(struct desk *desk);
 void grow(struct growing *text, const char *bytes, size_t length);
-void write_lines(struct growing *to, const char *text, size_t length, const int there[DEVICES], const struct device *rests);
+struct text text_of(const struct growing *it);
+void free_text(struct text *text);
+void write_lines(struct growing *to, struct text text, const int there[DEVICES], const struct device *rests);
 
 /* inserted.c: bytes of files that a text names */
-int insert_files(const char **text, size_t *length, const char *name, const char *file);
+int insert_files(struct text *text, const char *name, const char *file);
 
 /* sessions.c: a device's own core */
 int begin_own_core(struct device *device, const struct desk *desk);

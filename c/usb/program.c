@@ -286,7 +286,7 @@ static char *command_of(const struct line *line)
 /* The folder of the file of the devices; the driver's own where they are no file's. */
 static char *folder_of(const char *name)
 {
-    const char *end = process.text ? NULL : strrchr(name, '/');
+    const char *end = process.text.at ? NULL : strrchr(name, '/');
     return end ? strndup(name, end == name ? 1 : (size_t)(end - name)) : strdup(".");
 }
 

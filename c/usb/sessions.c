@@ -29,9 +29,9 @@ static int make_session(const struct device *device, bool rests, struct session 
     int there[DEVICES];
     *made = (struct session){ .text = { .length = 0 } };
     number_alone(there, device->number, 0);
-    write_lines(&made->text, device->text, device->text_length, there, rests ? device : NULL);
+    write_lines(&made->text, device->text, there, rests ? device : NULL);
     int r = made->text.failed ? LIBUSB_ERROR_NO_MEM : 0;
-    made->text.length = without_expected(made->text.at, made->text.length);
+    leave_out_expected(&made->text);
     if (!r)
         r = tirnouch_create(&made->slot, (const uint8_t *)made->text.at, made->text.length, &complaint);
     return r;
@@ -79,7 +79,7 @@ static void complain_of_own(const struct device *device, const struct session *m
 {
     char own[64];
     snprintf(own, sizeof own, "the program of device %d", device->number);
-    complain(made->text.at, made->text.length, device->text, own, name, device->program_lines);
+    complain(text_of(&made->text), device->text, own, name, device->program_lines);
 }
 
 static int begin_first_session(struct device *device, const char *name)
@@ -92,7 +92,7 @@ static int begin_first_session(struct device *device, const char *name)
     }
     if (!r) {
         device->core->slot = made.slot;
-        trace_devices(device->core, made.text.at, made.text.length);
+        trace_devices(device->core, text_of(&made.text));
     }
     free(made.text.at);
     return r;
@@ -108,9 +108,8 @@ static int begin_text(struct device *device, const struct desk *desk)
         r = begin_program(device, desk, &text);
     for (size_t i = 0; i < text.length; i++)
         device->program_lines += text.at[i] == '\n';
-    write_lines(&text, desk->text, desk->length, there, NULL);
-    device->text = text.at;
-    device->text_length = text.length;
+    write_lines(&text, desk->text, there, NULL);
+    device->text = text_of(&text);
     return r ? r : text.failed ? LIBUSB_ERROR_NO_MEM : 0;
 }
 
@@ -145,7 +144,7 @@ static void replace_session(struct device *device, struct session *made)
     core->fed = 0;
     core->sessions++;
     trace_begin(core, device);
-    trace_devices(core, made->text.at, made->text.length);
+    trace_devices(core, text_of(&made->text));
 }
 
 /* What is claimed is claimed in the new session. A halt goes on here, without the core. What was in flight goes on. */
@@ -208,7 +207,7 @@ static void move(struct device *device, struct core *core, const struct session 
     use_core(device, core);
     core->slot = made->slot;
     trace_begin(core, device);
-    trace_devices(core, made->text.at, made->text.length);
+    trace_devices(core, text_of(&made->text));
     go_on(device);
 }
 
@@ -217,14 +216,13 @@ static int copy_text(struct device *device)
     struct growing text = { 0 };
     int there[DEVICES];
     number_alone(there, device->number, device->number);
-    write_lines(&text, process.bus.text, process.bus.text_length, there, NULL);
+    write_lines(&text, process.bus.text, there, NULL);
     if (text.failed) {
         free(text.at);
         return LIBUSB_ERROR_NO_MEM;
     }
-    free(device->text);
-    device->text = text.at;
-    device->text_length = text.length;
+    free_text(&device->text);
+    device->text = text_of(&text);
     return 0;
 }
 

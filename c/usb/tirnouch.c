@@ -9,19 +9,19 @@
 
 int tirnouch_plug(const char *text, size_t length)
 {
-    char *copy = malloc(length + 1);
+    char *copy = malloc(length ? length : 1);
     if (!copy)
         return LIBUSB_ERROR_NO_MEM;
-    memcpy(copy, text, length);
+    if (length)
+        memcpy(copy, text, length);
     if (!lock_unless_asked()) {
         free(copy);
         return LIBUSB_ERROR_BUSY;
     }
     bool is_used = process.bus.is_there;
     if (!is_used) {
-        free(process.text);
-        process.text = copy;
-        process.text_length = length;
+        free_text(&process.text);
+        process.text = (struct text){ .at = copy, .end = copy + length };
         process.text_name = "the text of tirnouch_plug";
     }
     unlock();

@@ -146,14 +146,13 @@ static void trace_descriptor(struct core *core, const struct line *line)
 }
 
 /* The lines of a text of devices that a scenario has too; and what else it says of who they are, in its own words, as comments. */
-void trace_devices(struct core *core, const char *text, size_t length)
+void trace_devices(struct core *core, struct text text)
 {
     struct line line = { .number = 0 };
-    size_t at = 0;
     if (!process.bus.is_traced)
         return;
     trace_to(core);
-    while (next_line(text, length, &at, &line)) {
+    while (next_line(&text, &line)) {
         bool is_comment = is_of_identity(&line);
         if (!is_comment && !is_of_scenario(&line))
             continue;
