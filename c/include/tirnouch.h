@@ -52,13 +52,15 @@ int tirnouch_begin(const struct tirnouch_options *options);
  *   each call on the handle, but for those that don't of a device that is pulled out: `libusb_reset_device`, and
  *   `libusb_release_interface` of one that it didn't claim, answer LIBUSB_ERROR_NOT_FOUND, and `libusb_set_auto_detach_kernel_driver` 0.
  * - How many contexts, handles and transfers it left open is told in the log: as a warning, where it is more than contexts.
+ * - Functions of devices that were set while the bus was there are taken back. Those that were set before stay.
  *
  * LIBUSB_ERROR_NOT_FOUND where `tirnouch_begin` didn't begin it. LIBUSB_ERROR_BUSY in a callback of libusb's, of a transfer or of
  * hotplug, which stands on what would end; behind the callback it ends. */
 int tirnouch_end(void);
 
 /* A device's functions compute what it answers. They are set for the device of a number, 0 to 15, at any time; NULL in place of one
- * takes it back. Set before the `libusb_init` that begins the bus, or while the bus is there. LIBUSB_ERROR_NOT_FOUND for another number,
+ * takes it back. Set before the `libusb_init` that begins the bus, or while the bus is there. What is set while a bus of `tirnouch_begin` is
+ * there, its `tirnouch_end` takes back; what is set before counts for all later buses. LIBUSB_ERROR_NOT_FOUND for another number,
  * LIBUSB_ERROR_NO_MEM where memory is refused: then nothing changed.
  *
  * They are called with the library's lock held. Within such a function, in its thread,

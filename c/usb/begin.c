@@ -118,6 +118,7 @@ int tirnouch_end(void)
         process.has_begun = false;
         bus_end();
         take_back_text();
+        take_back_functions();
     }
     unlock();
     return r;

@@ -319,14 +319,17 @@ extern struct process {
     struct {
         tirnouch_control answer;
         void *user;
+        bool is_of_bus;               /* set while a bus of tirnouch_begin was there, whose end takes it back; */
     } controls[DEVICES];
     struct {
         tirnouch_packet answer;
         void *user;
+        bool is_of_bus;               /* so here, */
     } packets[DEVICES][ENDPOINTS];
     struct {
         tirnouch_listener tell;
         void *user;
+        bool is_of_bus;               /* and here */
     } listeners[DEVICES];
     libusb_log_cb log;
     char failure[1024];               /* what was told last of what went wrong with the bus; empty for nothing */

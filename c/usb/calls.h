@@ -20,6 +20,9 @@ int bus_begin_so(const struct beginning *so);
 void bus_end(void);
 void bus_end_with_last(void);
 
+/* tirnouch.c */
+void take_back_functions(void);
+
 /* outliving.c: contexts and handles over the end of a bus, and the beginning of the next */
 int give_devices_to_all(void);
 void tell_arrivals(void);

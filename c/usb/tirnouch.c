@@ -44,6 +44,7 @@ int tirnouch_on_control(int number, tirnouch_control answer, void *user)
         return LIBUSB_ERROR_BUSY;
     process.controls[number].answer = answer;
     process.controls[number].user = user;
+    process.controls[number].is_of_bus = process.has_begun;
     unlock();
     return 0;
 }
@@ -60,6 +61,7 @@ int tirnouch_on_packet(int number, uint8_t ep, tirnouch_packet answer, void *use
     if (!r) {
         process.packets[number][place_of(ep)].answer = answer;
         process.packets[number][place_of(ep)].user = user;
+        process.packets[number][place_of(ep)].is_of_bus = process.has_begun;
     }
     if (!r && device)
         learn_living(device);
@@ -77,8 +79,23 @@ int tirnouch_on_event(int number, tirnouch_listener listener, void *user)
         return LIBUSB_ERROR_BUSY;
     process.listeners[number].tell = listener;
     process.listeners[number].user = user;
+    process.listeners[number].is_of_bus = process.has_begun;
     unlock();
     return 0;
+}
+
+/* What was set while the bus was there, which has ended: what it stands on may end with the test that set it. */
+void take_back_functions(void)
+{
+    for (int i = 0; i < DEVICES; i++) {
+        if (process.controls[i].is_of_bus)
+            memset(&process.controls[i], 0, sizeof process.controls[i]);
+        if (process.listeners[i].is_of_bus)
+            memset(&process.listeners[i], 0, sizeof process.listeners[i]);
+        for (int k = 0; k < ENDPOINTS; k++)
+            if (process.packets[i][k].is_of_bus)
+                memset(&process.packets[i][k], 0, sizeof process.packets[i][k]);
+    }
 }
 
 /* Within a device's function too: then whoever asks it looks once more at all devices. */
