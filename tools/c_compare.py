@@ -29,7 +29,8 @@ FOLDERS = ["usr/lib/x86_64-linux-gnu", "lib/x86_64-linux-gnu", "usr/lib/aarch64-
 SECONDS = 40
 # Programs that try what libusb has no part in, or leaves undefined.
 LEFT_OUT = {
-    **{name: "its devices compute their answers" for name in ("living", "sessions", "endless", "programs", "inside", "together", "scarce")},
+    **{name: "its devices compute their answers" for name in ("amid", "living", "sessions", "endless", "programs", "inside", "together",
+                                                              "scarce")},
     **{name: "its buses begin and end by Tirnouch's calls" for name in ("bare", "buses", "kept", "outlive", "within")},
     "expects": "what it expects of a driver is Tirnouch's",
     "environment": "its variables are Tirnouch's",

@@ -1,7 +1,7 @@
 /* What the files of this folder share: the bus with its devices, the contexts and handles over it, and the transfers.
  *
  * There is one lock, `process.lock`. Everything here is read and written under it, but what a comment excepts. The program's callbacks
- * run without it. A context's `waiters` is a second one, for those who wait by libusb_wait_for_event: it is taken first, and never
+ * run without it, its log function too (log.c). A context's `waiters` is a second one, for those who wait by libusb_wait_for_event: it is taken first, and never
  * while `process.lock` is held.
  *
  * What outlives a call has an owner and a count:
@@ -58,11 +58,14 @@ struct core;
 struct device;
 struct judged;
 struct kept_trace;
+struct log_line;
 struct pipe;
 struct program;
 
 enum stage { AT_REST, QUEUED, IN_CORE, AT_CONTROL, ENDED };
 enum ask { ASKED_NOTHING, ASKED_TO_CANCEL, ASKED_TO_EXPIRE };
+/* What whoever handles events looks at behind that (`behind`). */
+enum behind { INTERRUPTED = 1, POLLED = 2, CLOSED = 4 };
 
 /* A transfer as it is kept here. What the program sees of it stands behind it in memory (`seen`). */
 struct transfer {
@@ -235,9 +238,10 @@ struct libusb_context {
     struct libusb_device_handle *calling; /* whose callback runs there; */
     bool is_calling;                      /* or one of hotplug */
     bool is_open, is_handled;
-    bool is_interrupted, is_asleep;
+    bool is_asleep;
     bool is_working;                  /* the handler isn't back yet: it sees by itself what is to be done */
-    bool is_polled, is_rung;          /* is_polled: the program polls by itself; is_rung: `event` can be read */
+    bool is_polled, is_rung;          /* is_polled: the program polls by itself; is_rung, atomic: `event` can be read, or will be at once */
+    unsigned behind;                  /* atomic, of `enum behind`: it was interrupted, `is_polled`, `closers` */
     bool is_blind;                    /* it has no devices (LIBUSB_OPTION_NO_DEVICE_DISCOVERY) */
     int holds;
     int users;                        /* of the default context: how often it was begun */
@@ -256,7 +260,8 @@ struct libusb_context {
     struct libusb_device *devices[DEVICES]; /* of the bus that is there; NULL where it has no such device; */
     struct libusb_device hub;         /* and the root hub, in each bus and without any */
     int hotplug_ids;
-    int log_level;                    /* atomic: it is written under `process.lock` */
+    int log_level;
+    int told_level;                   /* atomic, and written under `process.lock`: the same, or that of all calls (`set_told_level`) */
     bool log_is_fixed;                /* by LIBUSB_DEBUG */
     libusb_log_cb log;
     pthread_cond_t left;              /* with process.lock, once it isn't open: who handled events, or waited for that, doesn't any more */
@@ -310,7 +315,8 @@ extern struct process {
     pthread_mutex_t lock;
     struct bus bus;
     struct device hub, absent[DEVICES]; /* there without a bus; and in place of what a text doesn't have. Held by it */
-    struct libusb_context *default_context, *fallback, *contexts;
+    struct libusb_context *default_context, *fallback; /* atomic where they are written */
+    struct libusb_context *contexts;
     struct libusb_device_handle *handles; /* of all buses */
     struct libusb_context nobody;     /* the default context where none is open */
     struct defaults defaults;
@@ -332,6 +338,7 @@ extern struct process {
         bool is_of_bus;               /* and here */
     } listeners[DEVICES];
     libusb_log_cb log;
+    struct log_line *lines;           /* for the program's own function, which wasn't called for them yet; the oldest first */
     char failure[1024];               /* what was told last of what went wrong with the bus; empty for nothing */
     unsigned traces;                  /* how many were begun by the environment */
     unsigned buses;                   /* how many were begun */
@@ -341,43 +348,63 @@ extern struct process {
     uint8_t nowhere[1];               /* where memory of no bytes lies: nobody reads or writes it */
 } process;
 
-/* In a device's function this thread has the lock already, and may not wait for it. A call that only reads goes on without it
- * (`lock_to_read`, whose answer is what `unlock_read` needs); one that can answer is refused (`lock_unless_asked`); and where one can't,
- * that is told, and the program ends (`lock`). The latter two are macros for the name of the call. Each call comes by them, and so they are
- * inline for its speed; what is done in a device's function is a call. */
-bool is_asked_here(void) __attribute__((cold));
-bool refuse_asked(const char *function) __attribute__((cold));
-void end_for_asked(const char *function) __attribute__((cold));
+/* In a device's function, and in a signal's handler amid a call, this thread has the lock already, and may not wait for it. A call that
+ * only reads goes on without it (`lock_to_read`, whose answer is what `unlock_read` needs); one that can answer is refused
+ * (`lock_unless_asked`); and where one can't, that is told, and the program ends (`lock`). The latter two are macros for the name of the
+ * call. Each call comes by them, and so they are inline for its speed: whose the lock is, is asked only where somebody has it, as glibc's
+ * says by itself. Without glibc's a device's function alone is found. */
+bool is_held_here(void) __attribute__((cold));
+bool refuse_held(const char *function) __attribute__((cold));
+void end_for_held(const char *function) __attribute__((cold));
 static inline bool is_asking(void) { return __atomic_load_n(&process.is_asking, __ATOMIC_ACQUIRE); }
+static inline bool is_held(void)
+{
+#ifdef __GLIBC__
+    return __atomic_load_n(&process.lock.__data.__lock, __ATOMIC_RELAXED);
+#else
+    return is_asking();
+#endif
+}
 static inline void lock_for(const char *function)
 {
-    if (is_asking())
-        end_for_asked(function);
+    if (is_held())
+        end_for_held(function);
     pthread_mutex_lock(&process.lock);
 }
 static inline bool lock_unless_asked_for(const char *function)
 {
-    if (is_asking() && refuse_asked(function))
+    if (is_held() && refuse_held(function))
         return false;
     pthread_mutex_lock(&process.lock);
     return true;
 }
 static inline bool lock_to_read(void)
 {
-    if (is_asking() && is_asked_here())
+    if (is_held() && is_held_here())
         return false;
     pthread_mutex_lock(&process.lock);
     return true;
 }
 #define lock() lock_for(__func__)
 #define lock_unless_asked() lock_unless_asked_for(__func__)
-/* Behind a callback, or a wait: no function of a device's is asked in this thread. */
+/* Behind a callback, or a wait: this thread hasn't the lock. */
 static inline void lock_again(void) { pthread_mutex_lock(&process.lock); }
-static inline void unlock(void) { pthread_mutex_unlock(&process.lock); }
+/* Behind the lock the program's log function is called, where there are lines for it. Where a call asked `is_told` at its end, and nothing
+ * was, there are none: then the lock is given back by itself. */
+void unlock_and_give(void) __attribute__((cold));
+static inline void unlock_alone(void) { pthread_mutex_unlock(&process.lock); }
+static inline void unlock_behind(bool is_told)
+{
+    if (is_told)
+        unlock_and_give();
+    else
+        unlock_alone();
+}
+static inline void unlock(void) { unlock_behind(process.lines); }
 static inline void unlock_read(bool is_locked)
 {
     if (is_locked)
-        pthread_mutex_unlock(&process.lock);
+        unlock();
 }
 
 /* How many of the program's callbacks this thread is in, one within the other. */

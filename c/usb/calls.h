@@ -52,6 +52,9 @@ void note(struct libusb_context *context, enum libusb_log_level level, const cha
 void note_call(struct libusb_context *context, int answer, const char *function, const char *format, ...)
     __attribute__((format(printf, 4, 5)));
 void watch_for(int level);
+void set_told_level(struct libusb_context *context);
+void give_before_waiting(struct libusb_context *context);
+void leave_lines(void);
 
 /* sentences.c: a sentence that is put together; what doesn't fit is left out */
 struct sentence {
@@ -180,6 +183,7 @@ void hold_behind(const struct transfer *transfer, uint64_t moment);
 void ring(struct libusb_context *context);
 void drain(struct libusb_context *context);
 void wake_others(const struct libusb_context *context);
+void interrupt(struct libusb_context *context);
 void disturb(struct libusb_context *context);
 void tell_lockers(struct libusb_context *context);
 void wait_for_move(struct libusb_context *context);

@@ -124,10 +124,13 @@ void unclaim(struct libusb_device_handle *handle, int interface)
     tell_device(handle->device, TIRNOUCH_EVENT_RELEASED, interface);
 }
 
-static void note_interface(struct libusb_device_handle *handle, int interface, int answer, const char *function)
+/* Whether it is told. */
+static inline bool note_interface(struct libusb_device_handle *handle, int interface, int answer, const char *function)
 {
-    if (is_told(handle->context, answer))
+    bool told = is_told(handle->context, answer);
+    if (told)
         note_call(handle->context, answer, function, "handle %u, interface %d", handle->number, interface);
+    return told;
 }
 
 int libusb_claim_interface(libusb_device_handle *handle, int interface)
@@ -140,8 +143,7 @@ int libusb_claim_interface(libusb_device_handle *handle, int interface)
     int r = claim(handle, interface);
     if (!r)
         handle->asked |= 1u << interface;
-    note_interface(handle, interface, r, __func__);
-    unlock();
+    unlock_behind(note_interface(handle, interface, r, __func__));
     return r;
 }
 
@@ -170,8 +172,7 @@ int libusb_release_interface(libusb_device_handle *handle, int interface)
         return LIBUSB_ERROR_BUSY;
     random_steps();
     int r = release(handle, interface);
-    note_interface(handle, interface, r, __func__);
-    unlock();
+    unlock_behind(note_interface(handle, interface, r, __func__));
     return r;
 }
 
@@ -217,8 +218,7 @@ int libusb_kernel_driver_active(libusb_device_handle *handle, int interface)
         return LIBUSB_ERROR_BUSY;
     const struct interface *it = &handle->device->interfaces[interface];
     int r = is_lost(handle) ? LIBUSB_ERROR_NO_DEVICE : it->has_driver && !it->is_detached;
-    note_interface(handle, interface, r, __func__);
-    unlock();
+    unlock_behind(note_interface(handle, interface, r, __func__));
     return r;
 }
 
@@ -230,8 +230,7 @@ int libusb_detach_kernel_driver(libusb_device_handle *handle, int interface)
     if (!lock_unless_asked())
         return LIBUSB_ERROR_BUSY;
     handle->device->interfaces[interface].is_detached = true;
-    note_interface(handle, interface, 0, __func__);
-    unlock();
+    unlock_behind(note_interface(handle, interface, 0, __func__));
     return 0;
 }
 
@@ -249,8 +248,7 @@ int libusb_attach_kernel_driver(libusb_device_handle *handle, int interface)
         r = LIBUSB_ERROR_BUSY;
     else
         r = it->is_detached = false;
-    note_interface(handle, interface, r, __func__);
-    unlock();
+    unlock_behind(note_interface(handle, interface, r, __func__));
     return r;
 }
 

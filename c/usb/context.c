@@ -45,12 +45,16 @@ static void begin_in_child(struct libusb_context *context)
         context->is_handled = context->is_working = context->is_calling = false;
         context->calling = NULL;
     }
-    context->is_asleep = context->is_interrupted = context->is_rung = false;
+    context->is_asleep = context->is_rung = false;
+    forget_to_mind(context, INTERRUPTED);
     context->waiting = context->lockers = 0;
     begin_conditions(context);
     if (context->is_polled)
         poll_in_child(context);
 }
+
+/* Whether whoever forks has the lock anyway, in a device's function: then it keeps it, in both processes. Of who has the lock. */
+static bool forks_within;
 
 /* The trace is the parent's, and so are its programs; and it is the parent that is told what wasn't written. */
 static void go_on_in_child(void)
@@ -61,19 +65,26 @@ static void go_on_in_child(void)
     process.bus.is_judged = false;
     for (struct libusb_context *context = process.contexts; context; context = context->next)
         begin_in_child(context);
-    unlock();
+    leave_lines();
+    forget_own_number();
+    if (!forks_within)
+        unlock_alone();
 }
 
 static void hold_for_fork(void)
 {
-    lock();
+    bool is_within = is_held() && is_held_here();
+    if (!is_within)
+        lock_again();
+    forks_within = is_within;
     hold_limit_for_fork();
 }
 
 static void go_on_behind_fork(void)
 {
     go_on_with_limit();
-    unlock();
+    if (!forks_within)
+        unlock();
 }
 
 static void watch_forks(void) { pthread_atfork(hold_for_fork, go_on_behind_fork, go_on_in_child); }
@@ -84,6 +95,7 @@ static void begin_log(struct libusb_context *context)
     context->log_level = level ? atoi(level) : process.defaults.log_level;
     context->log_is_fixed = level;
     context->log = process.defaults.log;
+    set_told_level(context);
     watch_for(context->log_level);
 }
 
@@ -129,6 +141,7 @@ static int set_up(struct libusb_context *context, const struct libusb_init_optio
             return LIBUSB_ERROR_INVALID_PARAM;
         if (!context->log_is_fixed)
             context->log_level = level;
+        set_told_level(context);
         watch_for(context->log_level);
         return 0;
     case LIBUSB_OPTION_LOG_CB: context->log = option->value.log_cbval; return 0;
@@ -146,9 +159,9 @@ static void leave_list(struct libusb_context *context)
     if (*at)
         *at = context->next;
     if (process.fallback == context)
-        process.fallback = NULL;
+        __atomic_store_n(&process.fallback, NULL, __ATOMIC_RELEASE);
     if (process.default_context == context)
-        process.default_context = NULL;
+        __atomic_store_n(&process.default_context, NULL, __ATOMIC_RELEASE);
 }
 
 /* Those who handle events, or wait for that, leave first. They are told once: the context isn't open any more, and so nobody begins either
@@ -159,6 +172,8 @@ static void send_away(struct libusb_context *context)
         return;
     disturb(context);
     tell_waiters(context);
+    if (process.lines)
+        give_before_waiting(context);
     while (context->is_handled || context->waiting || context->lockers)
         pthread_cond_wait(&context->left, &process.lock);
 }
@@ -252,18 +267,18 @@ static int init(libusb_context **out, const struct libusb_init_option options[],
         return r;
     }
     pthread_once(&watched, watch_forks);
-    struct libusb_context *context = calloc(1, sizeof *context);
+    struct libusb_context *context = malloc(sizeof *context);
     if (!context)
         return LIBUSB_ERROR_NO_MEM;
     int r = begin_new(context, options, count);
     if (r)
         return r;
     if (!out) {
-        process.default_context = context;
+        __atomic_store_n(&process.default_context, context, __ATOMIC_RELEASE);
     } else {
         *out = context;
         if (!process.fallback)
-            process.fallback = context;
+            __atomic_store_n(&process.fallback, context, __ATOMIC_RELEASE);
     }
     tell_configurations(context);
     if (is_told(context, 0))

@@ -86,9 +86,10 @@ ssize_t libusb_get_device_list(libusb_context *context, libusb_device ***list)
     }
     struct libusb_context *x = context_of(context);
     ssize_t count = list_devices(x, all);
-    if (is_told(x, 0))
+    bool told = is_told(x, 0);
+    if (told)
         note_call(x, (int)count, __func__, "devices");
-    unlock();
+    unlock_behind(told);
     *list = all;
     return count;
 }
@@ -112,7 +113,7 @@ void libusb_unref_device(libusb_device *device)
         return;
     lock();
     drop_device(device);
-    unlock();
+    unlock_alone();
 }
 
 uint8_t libusb_get_bus_number(libusb_device *device)

@@ -9,19 +9,30 @@
 
 #define MINUTE 60
 
-/* An eventfd's number grows to 1, and whoever polls it is woken. */
+/* An eventfd's number grows to 1, and whoever polls it is woken. With or without the lock, and in a signal's handler too. */
 void ring(struct libusb_context *context)
 {
     uint64_t one = 1;
-    if (!context->is_rung)
-        context->is_rung = write(context->event, &one, sizeof one) == sizeof one;
+    if (!__atomic_exchange_n(&context->is_rung, true, __ATOMIC_SEQ_CST) && write(context->event, &one, sizeof one) != sizeof one)
+        __atomic_store_n(&context->is_rung, false, __ATOMIC_SEQ_CST);
 }
 
+/* Where somebody is about to write, nothing can be read yet, and it stays rung. Whoever interrupts between the read and what follows finds it
+ * rung, and doesn't write: so it is rung for that here. */
 void drain(struct libusb_context *context)
 {
     uint64_t count;
-    if (context->is_rung && read(context->event, &count, sizeof count) == sizeof count)
-        context->is_rung = false;
+    if (!is_rung(context) || read(context->event, &count, sizeof count) != sizeof count)
+        return;
+    if (__atomic_exchange_n(&context->is_rung, false, __ATOMIC_SEQ_CST) && is_interrupted(context))
+        ring(context);
+}
+
+/* Whoever handles events returns, or else who handles them next. With or without the lock, and in a signal's handler too. */
+void interrupt(struct libusb_context *context)
+{
+    mind(context, INTERRUPTED);
+    ring(context);
 }
 
 /* Those with a transfer in flight, which may come to an end by what was done elsewhere. */
@@ -41,6 +52,10 @@ void tell_leaver(struct libusb_context *context)
 
 void wait_for_move(struct libusb_context *context)
 {
+    if (process.lines) {
+        give_before_waiting(context);
+        return;
+    }
     context->waiting++;
     pthread_cond_wait(&context->moved, &process.lock);
     context->waiting--;
@@ -50,10 +65,8 @@ void wait_for_move(struct libusb_context *context)
 /* Whoever handles events, or waits for that, returns to the program. */
 void disturb(struct libusb_context *context)
 {
-    if (context->is_handled && !is_handler(context)) {
-        context->is_interrupted = true;
-        wake(context);
-    }
+    if (context->is_handled && !is_handler(context))
+        interrupt(context);
     if (context->waiting)
         pthread_cond_broadcast(&context->moved);
 }
@@ -61,11 +74,11 @@ void disturb(struct libusb_context *context)
 void tell_lockers(struct libusb_context *context)
 {
     context->waiting++;
-    unlock();
+    unlock_alone();
     pthread_mutex_lock(&context->waiters);
     pthread_cond_broadcast(&context->happened);
     pthread_mutex_unlock(&context->waiters);
-    lock();
+    lock_again();
     context->waiting--;
     tell_leaver(context);
 }
@@ -88,9 +101,10 @@ static void call_back(struct libusb_context *context, struct transfer *transfer)
     context->is_calling = true;
     if (context->closers)
         pthread_cond_broadcast(&context->moved);
-    if (is_told(context, 0))
+    bool told = is_told(context, 0);
+    if (told)
         note_call(context, it->actual_length, "callback", "endpoint %02x, status %d, bytes", it->endpoint, (int)it->status);
-    unlock();
+    unlock_behind(told);
     callbacks_within++;
     if (it->callback)
         it->callback(it);
@@ -125,9 +139,9 @@ static bool call_ended(struct libusb_context *context)
 static void pass_time(struct libusb_context *context, uint64_t end, uint64_t stirs)
 {
     struct bus *bus = &process.bus;
-    unlock();
+    unlock_alone();
     sched_yield();
-    lock();
+    lock_again();
     if (context->ended.first || context->notices || bus->stirs != stirs)
         return;
     for (struct libusb_context *it = process.contexts; it; it = it->next)
@@ -144,9 +158,9 @@ static bool sleep_until(struct libusb_context *context, uint64_t end)
     struct timespec left = moment_of(end > moment ? end - moment : 0);
     struct pollfd it = { .fd = context->event, .events = POLLIN };
     context->is_asleep = true;
-    unlock();
+    unlock_alone();
     int r = ppoll(&it, 1, &left, NULL), why = errno;
-    lock();
+    lock_again();
     context->is_asleep = false;
     return r < 0 && why == EINTR;
 }
@@ -158,9 +172,22 @@ static uint64_t next_look(const struct libusb_context *context, uint64_t end)
     return again && again < until ? again : until;
 }
 
+/* What was told goes out before a wait, as a callback does: the program's function may not handle events in it. */
+static void give_amid(struct libusb_context *context)
+{
+    context->is_calling = true;
+    unlock_and_give();
+    lock_again();
+    context->is_calling = false;
+    if (context->waiting)
+        pthread_cond_broadcast(&context->moved);
+}
+
 /* Something is done, or a time passes; whether a signal ended the wait. */
 static bool wait_on(struct libusb_context *context, uint64_t end, uint64_t stirs)
 {
+    if (process.lines)
+        give_amid(context);
     uint64_t until = next_look(context, end);
     if (!is_settled())
         return false;
@@ -181,6 +208,20 @@ static void work_off(bool waits)
         process.bus.stirs++;
 }
 
+/* What `behind` says, where events were handled. */
+static void look_behind(struct libusb_context *context)
+{
+    if (is_interrupted(context)) {
+        forget_to_mind(context, INTERRUPTED);
+        if (is_told(context, 0))
+            note_call(context, 0, "libusb_interrupt_event_handler", "whoever handles events returns");
+    }
+    if (context->closers)
+        pthread_cond_broadcast(&context->moved);
+    if (context->is_polled)
+        show_readiness(context);
+}
+
 /* Handles events until a callback ran, `end` passed or the loop was interrupted; 0 is now. Lock held, by the one who handles events. */
 static int handle_events(struct libusb_context *context, uint64_t end)
 {
@@ -188,7 +229,7 @@ static int handle_events(struct libusb_context *context, uint64_t end)
     context->is_working = true;
     for (bool any = false; !any && !r;) {
         uint64_t stirs = process.bus.stirs;
-        if (context->is_rung)
+        if (is_rung(context))
             drain(context);
         if (context->earliest)
             expire(context);
@@ -196,19 +237,16 @@ static int handle_events(struct libusb_context *context, uint64_t end)
         if (context->notices)
             any = call_hotplugs(context);
         any |= call_ended(context);
-        if (any || context->is_interrupted || !end || now() >= end)
+        if (any || is_interrupted(context) || !end || now() >= end)
             break;
         if (wait_on(context, end, stirs))
             r = LIBUSB_ERROR_INTERRUPTED;
-        if (context->is_interrupted)
+        if (is_interrupted(context))
             break;
     }
-    context->is_interrupted = false;
     context->is_working = false;
-    if (context->closers)
-        pthread_cond_broadcast(&context->moved);
-    if (context->is_polled)
-        show_readiness(context);
+    if (__atomic_load_n(&context->behind, __ATOMIC_ACQUIRE))
+        look_behind(context);
     return r;
 }
 
@@ -219,6 +257,8 @@ static void await_handler(struct libusb_context *context, uint64_t end, int *com
     uint64_t moment = now();
     struct timespec until = moment_in(end > moment ? end - moment : 0);
     int r = 0;
+    if (process.lines)
+        give_before_waiting(context);
     context->waiting++;
     while (context->is_calling && context->is_open && !r)
         r = pthread_cond_timedwait(&context->moved, &process.lock, &until);
@@ -310,13 +350,14 @@ int libusb_handle_events_locked(libusb_context *context, struct timeval *wait)
     return r;
 }
 
+/* Without the lock, so that a signal's handler may call it, whatever its thread is at. Where no context is open nobody is to be told. */
 void libusb_interrupt_event_handler(libusb_context *context)
 {
-    lock();
-    struct libusb_context *x = context_of(context);
-    x->is_interrupted = true;
-    if (is_told(x, 0))
-        note_call(x, 0, __func__, "whoever handles events returns");
-    wake(x);
-    unlock();
+    int before = errno;
+    struct libusb_context *x = context ? context : __atomic_load_n(&process.default_context, __ATOMIC_ACQUIRE);
+    if (!x)
+        x = __atomic_load_n(&process.fallback, __ATOMIC_ACQUIRE);
+    if (x)
+        interrupt(x);
+    errno = before;
 }

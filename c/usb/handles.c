@@ -30,9 +30,10 @@ int libusb_open(libusb_device *device, libusb_device_handle **out)
     }
     random_steps();
     int r = open_device(device, handle);
-    if (is_told(device->context, r))
+    bool told = is_told(device->context, r);
+    if (told)
         note_call(device->context, r, __func__, "device %d, handle %u", device->device->number, handle->number);
-    unlock();
+    unlock_behind(told);
     if (r)
         free(handle);
     else
@@ -94,9 +95,11 @@ static void await_callbacks(struct libusb_device_handle *handle)
     if (context->is_working)
         reap_all();
     context->closers++;
+    mind(context, CLOSED);
     while (context->calling == handle || (context->is_working && !context->is_calling && has_ended(handle)))
         wait_for_move(context);
-    context->closers--;
+    if (!--context->closers)
+        forget_to_mind(context, CLOSED);
 }
 
 /* New transfers are refused first; then what is in progress is dropped. */
@@ -111,9 +114,8 @@ void libusb_close(libusb_device_handle *handle)
     handle->is_shut = true;
     await_callbacks(handle);
     withdraw(handle, -1, true);
-    for (int i = 0; i < INTERFACES; i++)
-        if (handle->claimed >> i & 1)
-            unclaim(handle, i);
+    while (handle->claimed)
+        unclaim(handle, __builtin_ctz(handle->claimed));
     leave_handles(handle);
     process.bus.stirs++;
     disturb(context);

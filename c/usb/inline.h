@@ -36,6 +36,18 @@ static inline void wake(struct libusb_context *context)
         ring(context);
 }
 
+static inline void mind(struct libusb_context *context, enum behind what) { __atomic_fetch_or(&context->behind, what, __ATOMIC_SEQ_CST); }
+static inline void forget_to_mind(struct libusb_context *context, enum behind what)
+{
+    __atomic_fetch_and(&context->behind, ~(unsigned)what, __ATOMIC_SEQ_CST);
+}
+/* Whether `event` can be read, or will be at once. */
+static inline bool is_rung(const struct libusb_context *context) { return __atomic_load_n(&context->is_rung, __ATOMIC_ACQUIRE); }
+static inline bool is_interrupted(const struct libusb_context *context)
+{
+    return __atomic_load_n(&context->behind, __ATOMIC_ACQUIRE) & INTERRUPTED;
+}
+
 /* Devices and controller have something to do. Who handles events is told, those of other contexts too: what one program does may be what
  * another's device waits for. */
 static inline void stir(struct libusb_context *context)
@@ -100,10 +112,11 @@ static inline void leave(struct transfers *queue, struct transfer *transfer)
         queue->last = NULL;
 }
 
-/* Whether a call of this answer is told: a refusal at level 3, any other at level 4. With or without the lock. */
+/* Whether a call of this answer is told: a refusal at level 3, any other at level 4; or whether lines of before wait to be told, which goes
+ * to `unlock_behind`. With or without the lock. */
 static inline bool is_told(const struct libusb_context *context, int answer)
 {
-    int level = __atomic_load_n(&context->log_level, __ATOMIC_RELAXED);
+    int level = __atomic_load_n(&context->told_level, __ATOMIC_RELAXED);
     return level >= LIBUSB_LOG_LEVEL_INFO && (answer < 0 || level >= LIBUSB_LOG_LEVEL_DEBUG);
 }
 

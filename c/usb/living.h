@@ -76,7 +76,8 @@ int ask_for_request(struct device *device, const uint8_t *setup, uint8_t *data, 
 void learn_living(struct device *device);
 void ask_at_once(struct device *device);
 
-/* asking.c: a function that is asked may call nothing here */
+/* asking.c: a function that is asked may call nothing here, nor may a signal's handler amid a call */
+void forget_own_number(void);
 void begin_asking(int device, const char *of, uint8_t ep);
 void end_asking(void);
 

@@ -6,7 +6,8 @@
 static void set_level(struct libusb_context *context, int level)
 {
     if (!context->log_is_fixed)
-        __atomic_store_n(&context->log_level, level, __ATOMIC_RELAXED);
+        context->log_level = level;
+    set_told_level(context);
     watch_for(context->log_level);
 }
 

@@ -118,7 +118,8 @@ void outlive_bus(void)
 void wake_all(void)
 {
     for (struct libusb_context *it = process.contexts; it; it = it->next) {
-        it->is_interrupted |= it->is_working;
+        if (it->is_working)
+            interrupt(it);
         wake(it);
     }
 }

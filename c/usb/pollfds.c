@@ -11,7 +11,7 @@
 
 static bool is_due(const struct libusb_context *context)
 {
-    return !is_settled() || context->ended.first || context->notices || context->is_interrupted;
+    return !is_settled() || context->ended.first || context->notices || is_interrupted(context);
 }
 
 /* The next moment at which something is to be done by itself; 0 for none. */
@@ -47,7 +47,7 @@ void show_readiness(struct libusb_context *context)
         drain(context);
     if (!process.bus.is_virtual)
         show_time(context);
-    else if (!context->is_rung)
+    else if (!is_rung(context))
         show_virtual_time(context);
 }
 
@@ -81,6 +81,7 @@ static int begin_polling(struct libusb_context *context)
         return LIBUSB_ERROR_OTHER;
     }
     context->is_polled = true;
+    mind(context, POLLED);
     show_readiness(context);
     return 0;
 }
@@ -109,6 +110,7 @@ void end_polling(struct libusb_context *context)
         close(context->poller);
     context->timer = context->poller = -1;
     context->is_polled = false;
+    forget_to_mind(context, POLLED);
 }
 
 const struct libusb_pollfd **libusb_get_pollfds(libusb_context *context)

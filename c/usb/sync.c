@@ -16,7 +16,7 @@ static bool may_not_wait(struct libusb_context *context, const char *function)
     if (!lock_unless_asked_for(function))
         return true;
     bool r = is_handler(context) && context->is_calling;
-    unlock();
+    unlock_alone();
     return r;
 }
 

@@ -235,9 +235,10 @@ int libusb_submit_transfer(struct libusb_transfer *transfer)
     random_steps();
     const struct libusb_device_handle *handle = transfer->dev_handle;
     int r = handle ? submit(private_of(transfer)) : LIBUSB_ERROR_NO_DEVICE;
-    if (handle && is_told(handle->context, r))
+    bool told = handle && is_told(handle->context, r);
+    if (told)
         note_submission(transfer, r);
-    unlock();
+    unlock_behind(told);
     return r;
 }
 
@@ -252,9 +253,10 @@ int libusb_cancel_transfer(struct libusb_transfer *transfer)
     if (context && it->stage != ENDED && !it->ask)
         tell_why(it, "is cancelled", false);
     int r = cancel(it, ASKED_TO_CANCEL);
-    if (context && is_told(context, r))
+    bool told = context && is_told(context, r);
+    if (told)
         note_call(context, r, __func__, "endpoint %02x, %d bytes", transfer->endpoint, transfer->length);
-    unlock();
+    unlock_behind(told);
     return r;
 }
 
@@ -267,8 +269,9 @@ void libusb_free_transfer(struct libusb_transfer *transfer)
     struct transfer *it = private_of(transfer);
     lock();
     unsigned char *buffer = transfer->flags & LIBUSB_TRANSFER_FREE_BUFFER ? transfer->buffer : NULL;
+    bool is_flying = it->stage != AT_REST && it->stage != ENDED;
     transfer->buffer = NULL;
-    if (it->stage == AT_REST || it->stage == ENDED) {
+    if (!is_flying) {
         if (it->stage == ENDED)
             leave(&it->context->ended, it);
         free(it);
@@ -280,5 +283,5 @@ void libusb_free_transfer(struct libusb_transfer *transfer)
         reap_all();
     }
     free(buffer);
-    unlock();
+    unlock_behind(is_flying);
 }
