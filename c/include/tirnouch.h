@@ -78,7 +78,7 @@ int tirnouch_end(void);
 #define TIRNOUCH_STALL (-1)     /* a stall: the endpoint halts until its halt is cleared; a request is refused */
 #define TIRNOUCH_AS_TEXT (-2)   /* of requests: as the device's text has it */
 #define TIRNOUCH_NOT_READY (-3) /* a packet: it is asked again when events are handled, behind anything else that is done, or
-                                 * `tirnouch_ready`; a request: within a millisecond */
+                                 * `tirnouch_ready`, and with a seed before any call; a request: within a millisecond */
 #define TIRNOUCH_BROKEN (-4)    /* the transaction failed in all its retries: LIBUSB_TRANSFER_ERROR */
 #define TIRNOUCH_GONE (-5)      /* the device is gone: it is pulled out */
 /* Not ready for so many milliseconds, at most 1,000,000,000: it isn't asked before, unless by `tirnouch_ready`. */
@@ -90,7 +90,7 @@ typedef int (*tirnouch_control)(void *user, const uint8_t setup[8], uint8_t *dat
 int tirnouch_on_control(int device, tirnouch_control answer, void *user);
 
 /* What a device answers to a packet at a bulk or interrupt endpoint, where its script has no answer left: it is asked just before the
- * packet is served, never while the endpoint is halted. OUT: `data` has the packet, of `length` bytes; an answer of 0 or more takes it.
+ * packet is served, where events are handled, and with a seed in any call of libusb's too; never while the endpoint is halted. OUT: `data` has the packet, of `length` bytes; an answer of 0 or more takes it.
  * IN: `length` is how many bytes the host takes, there is room for 2,048, and the answer is how many bytes were put into `data`. Else
  * one of those above but TIRNOUCH_AS_TEXT. A device with such a function has a session of the core of its own: more than four devices
  * may be there, and `libusb_reset_device` and claims don't begin its scripts anew. LIBUSB_ERROR_NOT_FOUND for an endpoint that none can

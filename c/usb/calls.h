@@ -132,6 +132,7 @@ bool work_on(bool waits);
 bool work_again(bool waits);
 void work_to_end(void);
 void work_in_past(void);
+void work_at_endpoints(void);
 bool serve(struct pipe *pipe, uint32_t most);
 bool feed_all(void);
 void settle_all(void);
@@ -141,6 +142,7 @@ int pull_out(struct device *device);
 /* dice.c: the same by single steps, where a seed is given */
 bool work_by_dice(bool waits);
 void random_steps_by_dice(void);
+bool is_late_by_dice(uint64_t deadline);
 
 /* transfers.c */
 void end_transfer(struct transfer *transfer, enum libusb_transfer_status status, int moved);

@@ -50,7 +50,7 @@ struct timespec moment_behind(const struct timeval *wait)
 void expire(struct libusb_context *context)
 {
     uint64_t moment = now();
-    if (moment >= context->earliest)
+    if (moment >= context->earliest && !(process.bus.seed && is_late_by_dice(context->earliest)))
         catch_up(moment);
 }
 

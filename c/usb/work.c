@@ -153,6 +153,13 @@ void work_in_past(void)
     }
 }
 
+/* What is to be done at this moment but for requests. */
+void work_at_endpoints(void)
+{
+    while (go_on_behind(serve_all())) {
+    }
+}
+
 /* A device's function said meanwhile that some device is ready: all are asked once more, but not for ever. */
 bool work_again(bool waits)
 {
