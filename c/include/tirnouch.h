@@ -119,7 +119,8 @@ int tirnouch_ready(int device);
 int tirnouch_pull(int device);
 
 /* A device is plugged in that its text calls `hidden`, or one that computes its answers and is gone: it begins anew then, with its
- * scripts, and handles of before are answered LIBUSB_ERROR_NO_DEVICE. Where the text says that it comes back as another device, that one
+ * scripts. It is another `libusb_device` then, with another address: that of before keeps its numbers as long as it is referenced, and to
+ * open it, and to call with handles of before, is answered LIBUSB_ERROR_NO_DEVICE. Where the text says that it comes back as another device, that one
  * stands at its port. LIBUSB_ERROR_NOT_FOUND where there is no such device, it is there, or it is scripted and gone; LIBUSB_ERROR_NO_DEVICE
  * where it is a program that ended; LIBUSB_ERROR_NO_MEM where memory is refused. */
 int tirnouch_show(int device);

@@ -93,6 +93,7 @@ static int begin_device(int number, const struct desk *desk)
         .successor = desk->successors[number],
     };
     process.bus.devices[number] = device;
+    give_address(device);
     return 0;
 }
 

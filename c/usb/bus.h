@@ -34,6 +34,7 @@
  * its own. The root hub has a number too, but isn't in the core, and is there without a bus. */
 #define DEVICES 16
 #define HUB DEVICES
+#define HUB_ADDRESS 1
 #define INTERFACES 32
 #define ENDPOINTS 32
 /* The core's handles: each interface that was ever claimed has one of its own. */
@@ -56,6 +57,7 @@ struct text {
 
 struct core;
 struct device;
+struct hotplug;
 struct judged;
 struct kept_trace;
 struct log_line;
@@ -164,7 +166,8 @@ struct core {
 struct device {
     int holds;
     int number;
-    int port;                         /* the number of the device in whose place it stands: its own, or that which came back as this one */
+    int port;                         /* the number of the device in whose place it stands: its own, or that which came back as this one; */
+    uint8_t address;                  /* and its address on the bus: another one each time it is plugged in again */
     int successor;                    /* the device as which it comes back, where it leaves; -1 for itself */
     struct core *core;                /* its own, or the one that is shared; and */
     uint8_t number_there;             /* its number there */
@@ -198,6 +201,8 @@ struct libusb_device {
     struct libusb_context *context;
     struct device *device;
     int references;                   /* atomic */
+    uint8_t port, address;            /* as long as somebody has it, they stay, and are read without the lock */
+    bool is_past;                     /* the device was plugged in again since, and its context has another one for it */
 };
 
 struct libusb_device_handle {
@@ -210,16 +215,6 @@ struct libusb_device_handle {
     uint32_t asked;                   /* of these, those that the program claimed itself */
     bool is_shut;                     /* it takes no transfer: it is being closed, or its device was plugged in anew since; */
     bool is_lost, detaches;           /* is_lost: the latter. All but a close is answered NO_DEVICE, as where its bus ended */
-};
-
-struct hotplug {
-    struct hotplug *next;
-    struct libusb_context *context;   /* in whose list it stands; NULL where that context ended */
-    int holds;
-    int id, events, vendor, product, class;
-    bool is_over;                     /* not registered any more */
-    libusb_hotplug_callback_fn call;
-    void *user;
 };
 
 /* That a device came, or went. It has a reference to it. */
@@ -258,6 +253,7 @@ struct libusb_context {
     pthread_cond_t happened;          /* with `waiters`: a callback returned, or nobody handles events any more */
     struct notice all_notices[DEVICES][2];
     struct libusb_device *devices[DEVICES]; /* of the bus that is there; NULL where it has no such device; */
+    struct libusb_device *coming;     /* that of a device which is being plugged in again; else NULL; */
     struct libusb_device hub;         /* and the root hub, in each bus and without any */
     int hotplug_ids;
     int log_level;
@@ -290,6 +286,7 @@ struct bus {
     bool is_traced, is_watched;       /* is_watched: answers are counted one by one, for the trace or the log */
     struct transfers controls;
     uint64_t again;                   /* when a request is to be asked again; 0 for none */
+    uint8_t last_address;             /* that was given to a device; */
     uint64_t stirs, settled;          /* how often there was something to be done, in all buses; and how often when all was done */
     uint64_t past;                    /* events are handled late: time stands before a deadline, and went back to this moment; else 0 */
     uint64_t moment;                  /* of virtual time; */

@@ -32,6 +32,10 @@ void outlive_bus(void);
 void wake_all(void);
 
 /* devices.c */
+void give_address(struct device *device);
+int prepare_anew(struct device *device);
+void give_anew(struct device *device, const int *port);
+void stand_at(struct device *device, int port);
 int give_devices(struct libusb_context *context);
 void take_devices(struct libusb_context *context);
 bool drop_device(struct libusb_device *device);

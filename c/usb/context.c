@@ -122,7 +122,7 @@ static int begin(struct libusb_context *context)
         return LIBUSB_ERROR_OTHER;
     }
     learn_hub();
-    context->hub = (struct libusb_device){ .context = context, .device = &process.hub, .references = 1 };
+    context->hub = (struct libusb_device){ .context = context, .device = &process.hub, .references = 1, .address = HUB_ADDRESS };
     begin_conditions(context);
     begin_log(context);
     context->is_blind = process.defaults.is_blind;
@@ -215,9 +215,10 @@ static void end_devices(struct libusb_context *context)
 {
     for (int i = 0; i < DEVICES; i++) {
         struct libusb_device *it = context->devices[i];
+        uint8_t address = it ? it->address : 0;
         context->devices[i] = NULL;
         if (it && !drop_device(it))
-            note(context, LIBUSB_LOG_LEVEL_WARNING, "device 1.%d is still referenced at libusb_exit", i + 2);
+            note(context, LIBUSB_LOG_LEVEL_WARNING, "device 1.%u is still referenced at libusb_exit", address);
     }
     if (!drop_device(&context->hub))
         note(context, LIBUSB_LOG_LEVEL_WARNING, "device 1.1 is still referenced at libusb_exit");

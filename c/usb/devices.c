@@ -5,13 +5,31 @@
 
 /* Each device stands at a port of its own of one bus. Its root hub, which has address 1, stands at no port. */
 #define BUS_NUMBER 1
-#define HUB_ADDRESS 1
 #define FIRST_ADDRESS 2
+#define LAST_ADDRESS 127
 #define FIRST_PORT 1
 
 static bool is_hub(const struct libusb_device *device)
 {
     return device->device->number == HUB;
+}
+
+static bool is_taken(uint8_t address)
+{
+    for (int i = 0; i < DEVICES; i++)
+        if (process.bus.devices[i]->address == address && !process.bus.devices[i]->is_gone)
+            return true;
+    return false;
+}
+
+/* The one behind that which was given last, and again from the first one on, but for those that are taken: as Linux has it. */
+void give_address(struct device *device)
+{
+    uint8_t *last = &process.bus.last_address;
+    do
+        *last = *last < FIRST_ADDRESS - 1 || *last == LAST_ADDRESS ? FIRST_ADDRESS : *last + 1;
+    while (is_taken(*last));
+    device->address = *last;
 }
 
 /* The hub first, and then as the text has them. */
@@ -27,6 +45,69 @@ static ssize_t list_devices(struct libusb_context *context, libusb_device **all)
     return count;
 }
 
+/* Where nobody has it yet. */
+static void number_device(struct libusb_device *it)
+{
+    it->port = (uint8_t)(it->device->port + FIRST_PORT);
+    it->address = it->device->address;
+}
+
+/* A device as a context has it, with the context's reference. NULL where memory is refused. */
+static struct libusb_device *new_device(struct libusb_context *context, struct device *device)
+{
+    struct libusb_device *it = malloc(sizeof *it);
+    if (!it)
+        return NULL;
+    *it = (struct libusb_device){ .context = context, .device = device, .references = 1 };
+    number_device(it);
+    device->holds++;
+    context->holds++;
+    return it;
+}
+
+/* Before a device is plugged in again: each context has a new one for it ready. Where memory is refused none has: LIBUSB_ERROR_NO_MEM. */
+int prepare_anew(struct device *device)
+{
+    for (struct libusb_context *it = process.contexts; it; it = it->next) {
+        it->coming = new_device(it, device);
+        if (it->coming)
+            continue;
+        give_anew(device, NULL);
+        return LIBUSB_ERROR_NO_MEM;
+    }
+    return 0;
+}
+
+/* What is ready takes the place of those of before, which are the program's alone then, at this port and with another address; or it goes,
+ * where there is no port, since the device isn't plugged in. */
+void give_anew(struct device *device, const int *port)
+{
+    if (port) {
+        device->port = *port;
+        give_address(device);
+    }
+    for (struct libusb_context *it = process.contexts; it; it = it->next) {
+        struct libusb_device *coming = it->coming, **place = port ? &it->devices[device->number] : &it->coming, *old = *place;
+        it->coming = NULL;
+        *place = port ? coming : NULL;
+        if (port)
+            number_device(coming);
+        if (!old)
+            continue;
+        old->is_past = true;
+        drop_device(old);
+    }
+}
+
+/* The port at which one that was hidden so far is plugged in. */
+void stand_at(struct device *device, int port)
+{
+    device->port = port;
+    for (struct libusb_context *it = process.contexts; it; it = it->next)
+        if (it->devices[device->number])
+            number_device(it->devices[device->number]);
+}
+
 /* A context has the devices of the bus that is there. Where memory is refused it has none: LIBUSB_ERROR_NO_MEM. */
 int give_devices(struct libusb_context *context)
 {
@@ -34,15 +115,11 @@ int give_devices(struct libusb_context *context)
         struct device *device = process.bus.devices[i];
         if (!device->is_there)
             continue;
-        struct libusb_device *it = malloc(sizeof *it);
-        if (!it) {
+        context->devices[i] = new_device(context, device);
+        if (!context->devices[i]) {
             take_devices(context);
             return LIBUSB_ERROR_NO_MEM;
         }
-        *it = (struct libusb_device){ .context = context, .device = device, .references = 1 };
-        device->holds++;
-        context->holds++;
-        context->devices[i] = it;
     }
     return 0;
 }
@@ -124,7 +201,7 @@ uint8_t libusb_get_bus_number(libusb_device *device)
 
 uint8_t libusb_get_port_number(libusb_device *device)
 {
-    return is_hub(device) ? 0 : (uint8_t)(device->device->port + FIRST_PORT);
+    return device->port;
 }
 
 int libusb_get_port_numbers(libusb_device *device, uint8_t *numbers, int room)
@@ -150,7 +227,7 @@ libusb_device *libusb_get_parent(libusb_device *device)
 
 uint8_t libusb_get_device_address(libusb_device *device)
 {
-    return is_hub(device) ? HUB_ADDRESS : (uint8_t)(device->device->number + FIRST_ADDRESS);
+    return device->address;
 }
 
 int libusb_get_device_speed(libusb_device *device)

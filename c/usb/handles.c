@@ -6,7 +6,7 @@
 /* With the lock. */
 static int open_device(struct libusb_device *device, struct libusb_device_handle *handle)
 {
-    if (!is_present(device->device))
+    if (device->is_past || !is_present(device->device))
         return LIBUSB_ERROR_NO_DEVICE;
     if (device->device->number == HUB)
         return LIBUSB_ERROR_ACCESS;

@@ -4,6 +4,16 @@
 
 #include <stdlib.h>
 
+struct hotplug {
+    struct hotplug *next;
+    struct libusb_context *context;   /* in whose list it stands; NULL where that context ended */
+    int holds;
+    int id, events, vendor, product, class;
+    bool is_over;                     /* not registered any more */
+    libusb_hotplug_callback_fn call;
+    void *user;
+};
+
 static bool is_asked_for(const struct hotplug *it, const struct device *device, libusb_hotplug_event event)
 {
     const uint8_t *bytes = device->descriptor;

@@ -296,21 +296,24 @@ static void forget_state(struct device *device)
     device->is_awaking = device->is_gone = false;
 }
 
-/* A device that is gone is plugged in again. */
-static int begin_anew(struct device *device)
+/* A device that is gone is plugged in again: it is another one for the program, at this port. */
+static int begin_anew(struct device *device, int port)
 {
-    struct session made;
+    struct session made = { .text = { .length = 0 } };
     if (!device->is_living)
         return LIBUSB_ERROR_NOT_FOUND;
     if (device->program && !is_running(device->program))
         return LIBUSB_ERROR_NO_DEVICE;
-    int r = make_session(device, false, &made);
+    int r = prepare_anew(device);
+    if (!r && (r = make_session(device, false, &made)))
+        give_anew(device, NULL);
     if (!r) {
         end_flight(device);
         lose_handles(device);
         replace_session(device, &made);
         expect_requests_anew(device);
         forget_state(device);
+        give_anew(device, &port);
     }
     free(made.text.at);
     return r;
@@ -321,11 +324,12 @@ int plug_in(struct device *device)
 {
     bool returns = device->is_gone && device->successor >= 0;
     struct device *it = returns ? process.bus.devices[device->successor] : device;
-    int r = is_present(it) ? LIBUSB_ERROR_NOT_FOUND : it->is_gone ? begin_anew(it) : 0;
+    int port = device->port, r = is_present(it) ? LIBUSB_ERROR_NOT_FOUND : it->is_gone ? begin_anew(it, port) : 0;
     if (r)
         return r;
+    if (it->is_hidden)
+        stand_at(it, port);
     it->is_hidden = false;
-    it->port = device->port;
     process.bus.stirs++;
     tell_all(it, LIBUSB_HOTPLUG_EVENT_DEVICE_ARRIVED);
     tell_device(it, TIRNOUCH_EVENT_PLUGGED, 0);
