@@ -112,6 +112,7 @@ struct pipe {
     uint8_t in_core;                  /* at most PLACES */
     bool is_halted, is_active;
     bool is_stopped;                  /* halted by a request of the program's: it stalls until the halt is cleared */
+    bool is_unset;                    /* its interface is in another setting, which has no endpoints */
     bool is_watched;                  /* its answers are looked at one by one */
     bool is_judged;                   /* something is expected of the driver there; `expected_at` has it */
     bool is_asked;                    /* behind its script a function, or a program, is asked for its answers; */

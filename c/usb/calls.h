@@ -104,6 +104,7 @@ void trace_feed(const struct pipe *pipe, uint8_t kind, const uint8_t *bytes, int
 int claim(struct libusb_device_handle *handle, int interface);
 int claim_unasked(struct libusb_device_handle *handle, int interface);
 void unclaim(struct libusb_device_handle *handle, int interface);
+void use_setting(struct device *device, int interface, int setting);
 int name_interface(struct device *device, int interface, int name);
 int make_new(struct device *device, int interface);
 void give_back(struct device *device);

@@ -115,9 +115,21 @@ int claim_unasked(struct libusb_device_handle *handle, int interface)
     return r;
 }
 
-/* Nothing of it is in progress. A driver of the system that was detached stays so: only a release by hand binds it again. */
+/* Of the settings of an interface only the first one, 0, has endpoints here. */
+void use_setting(struct device *device, int interface, int setting)
+{
+    device->interfaces[interface].setting = (uint8_t)setting;
+    for (int i = 0; i < ENDPOINTS; i++)
+        if (device->pipes[i].interface == interface)
+            device->pipes[i].is_unset = setting;
+}
+
+/* Nothing of it is in progress. A driver of the system that was detached stays so: only a release by hand binds it again. The interface is
+ * in setting 0 again, as Linux has it of one that is released (drivers/usb/core/driver.c, `usb_unbind_interface`). */
 void unclaim(struct libusb_device_handle *handle, int interface)
 {
+    if (handle->device->interfaces[interface].setting)
+        use_setting(handle->device, interface, 0);
     handle->device->interfaces[interface].holder = NULL;
     handle->claimed &= ~(1u << interface);
     handle->asked &= ~(1u << interface);
@@ -176,7 +188,7 @@ int libusb_release_interface(libusb_device_handle *handle, int interface)
     return r;
 }
 
-/* The core has the endpoints of setting 0 alone. */
+/* The core has the endpoints of setting 0 alone. What is in flight at them is cancelled where they go. */
 static int set_setting(struct libusb_device_handle *handle, int interface, int setting)
 {
     struct device *device = handle->device;
@@ -191,7 +203,9 @@ static int set_setting(struct libusb_device_handle *handle, int interface, int s
             continue;
         if (setting && it[4])
             return LIBUSB_ERROR_NOT_SUPPORTED;
-        device->interfaces[interface].setting = (uint8_t)setting;
+        if (setting)
+            withdraw(handle, interface, false);
+        use_setting(device, interface, setting);
         return 0;
     }
     return LIBUSB_ERROR_NOT_FOUND;

@@ -163,7 +163,8 @@ int libusb_set_configuration(libusb_device_handle *handle, int value)
     return r;
 }
 
-/* With a transfer in flight at the endpoint the core refuses it. */
+/* With a transfer in flight at the endpoint the core refuses it. A device stalls it for an endpoint that its setting doesn't have, which libusb
+ * tells so (os/linux_usbfs.c, `op_clear_halt`). */
 static int clear_halt(struct libusb_device_handle *handle, uint8_t ep)
 {
     struct pipe *pipe = &handle->device->pipes[place_of(ep)];
@@ -174,6 +175,8 @@ static int clear_halt(struct libusb_device_handle *handle, uint8_t ep)
     int r = claim_in_passing(handle, pipe->interface);
     if (r)
         return r;
+    if (pipe->is_unset)
+        return LIBUSB_ERROR_OTHER;
     settle_all();
     if (pipe->in_core || pipe->queue.first)
         return LIBUSB_ERROR_BUSY;
@@ -218,7 +221,8 @@ static int reset(struct libusb_device_handle *handle)
     if (r)
         return r;
     for (int i = 0; i < INTERFACES; i++)
-        device->interfaces[i].setting = 0;
+        if (device->interfaces[i].setting)
+            use_setting(device, i, 0);
     tell_device(device, TIRNOUCH_EVENT_RESET, 0);
     stir(handle->context);
     return 0;

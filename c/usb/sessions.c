@@ -285,7 +285,7 @@ static void forget_state(struct device *device)
         pipe->gates_passed = 0;
         pipe->answers = pipe->naks = pipe->script = pipe->fed = 0;
         pipe->later = pipe->took = pipe->withdrawn = 0;
-        pipe->is_halted = pipe->is_stopped = false;
+        pipe->is_halted = pipe->is_stopped = pipe->is_unset = false;
         expect_anew(pipe);
     }
     free(device->requests);

@@ -1,5 +1,5 @@
-/* Standard requests that tell and change what is kept here, where a device's text says nothing of them (USB 2.0, 9.4.1, 9.4.5, 9.4.9): the
- * halt of an endpoint, and whether a device may wake its host. */
+/* Standard requests that tell and change what is kept here, where a device's text says nothing of them (USB 2.0, 9.4.1, 9.4.4, 9.4.5, 9.4.9):
+ * the halt of an endpoint, the setting of an interface, and whether a device may wake its host. */
 #include "bus.h"
 
 #define ENDPOINT_HALT 0
@@ -24,9 +24,19 @@ static bool is_status(const uint8_t *setup)
     return setup[1] == LIBUSB_REQUEST_GET_STATUS && setup[0] & LIBUSB_ENDPOINT_IN && !two_bytes(setup + 2);
 }
 
+/* GET_INTERFACE of one that isn't in setting 0: of the others the core tells that. */
+static bool is_of_setting(const struct device *device, const uint8_t *setup)
+{
+    unsigned interface = two_bytes(setup + 4);
+    bool asks = setup[0] & LIBUSB_ENDPOINT_IN && setup[1] == LIBUSB_REQUEST_GET_INTERFACE && !two_bytes(setup + 2);
+    return asks && interface < INTERFACES && device->interfaces[interface].setting;
+}
+
 /* Whether a request is one of these. */
 bool is_standard(struct device *device, const uint8_t *setup)
 {
+    if (is_to(setup, LIBUSB_RECIPIENT_INTERFACE))
+        return is_of_setting(device, setup);
     if (is_to(setup, LIBUSB_RECIPIENT_ENDPOINT))
         return is_status(setup) || is_feature(setup, ENDPOINT_HALT);
     if (!is_to(setup, LIBUSB_RECIPIENT_DEVICE) || two_bytes(setup + 4))
@@ -80,7 +90,7 @@ static int answer_of_endpoint(struct device *device, const uint8_t *setup, uint8
     unsigned length = two_bytes(setup + 6), index = two_bytes(setup + 4);
     struct pipe *pipe = &device->pipes[place_of((uint8_t)index)];
     bool is_default = !(index & 0x7f);
-    if (index & 0xff70 || (!is_default && !pipe->kind))
+    if (index & 0xff70 || (!is_default && (!pipe->kind || pipe->is_unset)))
         return TIRNOUCH_STALL;
     if (is_status(setup))
         return answer_word(data, !is_default && is_halted(pipe), length);
@@ -91,8 +101,11 @@ static int answer_of_endpoint(struct device *device, const uint8_t *setup, uint8
 int answer_standard(struct device *device, const uint8_t *setup, uint8_t *data)
 {
     bool is_powered = device->config[7] & 0x40;
+    unsigned length = two_bytes(setup + 6);
     if (is_to(setup, LIBUSB_RECIPIENT_ENDPOINT))
         return answer_of_endpoint(device, setup, data);
+    if (is_to(setup, LIBUSB_RECIPIENT_INTERFACE))
+        return answer_word(data, device->interfaces[two_bytes(setup + 4)].setting, length < 1 ? length : 1);
     return is_status(setup) ? answer_word(data, (unsigned)is_powered | IS_WAKING, two_bytes(setup + 6)) : 0;
 }
 

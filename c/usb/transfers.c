@@ -159,6 +159,8 @@ static int submit_to_stopped(struct transfer *transfer)
     return 0;
 }
 
+/* One that the interface's setting doesn't have is refused as Linux does: `proc_do_submiturb` of drivers/usb/core/devio.c answers ENOENT,
+ * behind the claim and before it looks at the type, which is LIBUSB_ERROR_IO (os/linux_usbfs.c, `submit_bulk_transfer`). */
 static int submit_to_pipe(struct transfer *transfer)
 {
     const struct libusb_transfer *it = public_of(transfer);
@@ -166,10 +168,12 @@ static int submit_to_pipe(struct transfer *transfer)
     if (it->endpoint != pipe->ep || !pipe->kind)
         return LIBUSB_ERROR_NOT_FOUND;
     if (!fits(pipe, it))
-        return LIBUSB_ERROR_INVALID_PARAM;
+        return pipe->is_unset ? LIBUSB_ERROR_IO : LIBUSB_ERROR_INVALID_PARAM;
     int r = claim_in_passing(transfer->handle, pipe->interface);
     if (r)
         return r;
+    if (pipe->is_unset)
+        return LIBUSB_ERROR_IO;
     transfer->pipe = pipe;
     return pipe->is_stopped ? submit_to_stopped(transfer) : submit_at_endpoint(transfer);
 }
