@@ -79,7 +79,7 @@ def wrong_words_are_refused(trial: Trial) -> None:
 def help_names_every_word(trial: Trial) -> None:
     ran = trial.run(["--help"])
     words = "--trace --seed --virtual --no-programs --lenient --limit --seeds --keep-going --jobs --version --umockdev --descriptors"
-    trial.expect(ran, 0, *words.split(), "--device", "--text", "CAPTURE")
+    trial.expect(ran, 0, *words.split(), "--device", "--text", "--preload", "CAPTURE")
 
 
 def programs_are_refused(trial: Trial) -> None:
@@ -320,12 +320,64 @@ def asked_to_end(trial: Trial) -> None:
     trial.check(not running_in(trial), f"programs go on: {running_in(trial)}")
 
 
+DEVICE_IN_C = """#include "tirnouch.h"
+#include <string.h>
+
+static int give(void *user, uint8_t ep, uint8_t *data, int length)
+{
+    (void)user, (void)ep, (void)length;
+    data[0] = 42;
+    return 1;
+}
+
+__attribute__((constructor)) static void begin(void)
+{
+    static const char text[] = "device 0 0902190001010080320904000001ff00000007058102080000\\nids 0 1209 0002\\n";
+    tirnouch_plug(text, strlen(text));
+    tirnouch_on_packet(0, 0x81, give, NULL);
+}
+"""
+DRIVER_IN_C = """#include "libusb.h"
+#include <stdio.h>
+
+int main(void)
+{
+    libusb_context *context;
+    unsigned char data[8] = { 0 };
+    int moved = 0;
+    if (libusb_init(&context))
+        return 1;
+    libusb_device_handle *handle = libusb_open_device_with_vid_pid(context, 0x1209, 2);
+    int result = handle ? libusb_bulk_transfer(handle, 0x81, data, 8, &moved, 1000) : -1;
+    printf("answer %d, %d bytes: %d\\n", result, moved, data[0]);
+    libusb_close(handle);
+    libusb_exit(context);
+    return result != 0;
+}
+"""
+
+
+def a_device_is_loaded_before_the_program(trial: Trial) -> None:
+    """A library whose constructor plugs a device in, in each kind of run; it isn't loaded into tirnouch-run and what that runs."""
+    include, library = ROOT / "c" / "include", ROOT / "bin"
+    for name, text in (("device.c", DEVICE_IN_C), ("driver.c", DRIVER_IN_C)):
+        (trial.folder / name).write_text(text)
+    words = {"device.so": ["-shared", "-fPIC", "device.c"], "driver": ["driver.c", "-L", library, "-lusb-1.0"]}
+    for name, those in words.items():
+        subprocess.run(["gcc", "-I", include, *those, "-o", name], cwd=trial.folder, check=True)
+    for how in ([], ["--limit", "20s"], ["--seeds", "1-2"], ["--virtual", "--seed", "3"]):
+        ran = trial.run([str(DEVICES), *how, "--preload", "./device.so", "--", "./driver"])
+        trial.expect(ran, 0, *([] if "--seeds" in how else ["answer 0, 1 bytes: 42"]))
+    trial.expect(trial.run([str(DEVICES), "--preload", "./nothing.so", "--", "./driver"]), 2, "there is no such library")
+
+
 TRIALS = [
     plain_runs_are_the_program, wrong_words_are_refused, help_names_every_word, programs_are_refused, the_version_is_told, a_limit_lets_a_program_end,
     over_limit("events"), over_limit("loop"), over_limit("before", "ended by SIGTERM", "there is no trace"), over_limit("deadlock"),
     over_limit("deaf"), a_limit_tells_the_last_steps, a_limit_ends_children_too, signals_are_passed_on, the_terminal_is_the_programs,
     what_is_written_is_judged, other_differences_make_the_status, a_status_of_its_own_stays, lenient_runs_only_tell,
-    each_seed_is_judged, a_program_of_a_device_expects, seeds_stop_at_the_lowest, seeds_have_a_limit, seeds_tell_other_failures, asked_to_end,
+    each_seed_is_judged, a_program_of_a_device_expects, a_device_is_loaded_before_the_program, seeds_stop_at_the_lowest, seeds_have_a_limit,
+    seeds_tell_other_failures, asked_to_end,
 ]
 
 

@@ -28,7 +28,8 @@
 struct program {
     int socket;                       /* -1 where it is lost */
     pid_t process;                    /* the first of its group; 0 where it isn't ours to end */
-    uint64_t patience;                /* in nanoseconds */
+    uint64_t patience;                /* in nanoseconds; */
+    uint64_t until;                   /* and how long that is for what it is answering */
     bool is_met;                      /* it said that it is ready */
     size_t count;                     /* bytes behind the line that was read last */
     size_t taken;                     /* of that line, with its end */
@@ -201,29 +202,29 @@ char *ask_line(struct device *device, char *question, size_t length, size_t *ans
     struct program *it = device->program;
     if (it->socket < 0)
         return NULL;
-    uint64_t until = clock_now() + it->patience;
+    it->until = clock_now() + it->patience;
     const char *why = look_unasked(it);
     char *line = NULL;
     question[length] = '\n';
     if (!why)
-        why = write_line(it, question, length + 1, until);
+        why = write_line(it, question, length + 1, it->until);
     question[length] = 0;
     if (!why)
-        line = read_line(it, answer_length, until, &why);
+        line = read_line(it, answer_length, it->until, &why);
     if (!line)
         lose(device, why);
     return line;
 }
 
-/* One more line of an answer that has several; NULL where the program is lost. */
+/* One more line of an answer that has several, all of which come within its time; NULL where the program is lost. */
 char *hear_line(struct device *device, size_t *length)
 {
     struct program *it = device->program;
     const char *why = NULL;
     forget_line(it);
-    char *line = read_line(it, length, clock_now() + it->patience, &why);
+    char *line = clock_now() < it->until ? read_line(it, length, it->until, &why) : NULL;
     if (!line)
-        lose(device, why);
+        lose(device, clock_now() < it->until ? why : "didn't come to the end of its lines in time");
     return line;
 }
 
@@ -267,10 +268,10 @@ static const char *why_none(void)
     return NULL;
 }
 
-/* What the shell does, in the folder that is its $0. */
+/* What the shell does, in the folder that is its $0: the command may be anything that a shell takes. */
 static char *command_of(const struct line *line)
 {
-    static const char before[] = "cd \"$0\" && exec ";
+    static const char before[] = "cd \"$0\" || exit\n";
     int length;
     const char *words = word_of(line->at, (int)line->length, 2, &length);
     size_t count = (size_t)(line->at + line->length - words);

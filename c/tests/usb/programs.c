@@ -162,6 +162,24 @@ static void beginnings(void)
     refuse("a bad line of the text", "# the first line\nprogram 0 sh programs/echo.sh\nids 0 1209 02\n");
     patience("0.3");
     refuse_hostile("never ok");
+    refuse_hostile("never at an end");
+}
+
+/* A command is one of the shell: a list, an assignment in front, a word of the shell's own. */
+static void commands(void)
+{
+    static const char *const all[] = { "cd programs && sh echo.sh", "A=1 sh programs/echo.sh", "true; exec sh programs/echo.sh" };
+    patience("20");
+    for (int i = 0; i < 3; i++) {
+        char text[200];
+        snprintf(text, sizeof text, "program 0 %s\n", all[i]);
+        begin_text(all[i], text);
+        handle = open_standard(context);
+        write_once("four");
+        read_once();
+        end();
+        no_child_is_left();
+    }
 }
 
 static void variables(void)
@@ -219,6 +237,7 @@ int main(void)
     hostile("unasked", "20");
     hostile("flood", "20");
     beginnings();
+    commands();
     variables();
     one_of_two();
     return 0;

@@ -10,6 +10,7 @@ while read -r kind first; do
         'starts another') printf 'program %s true\n' "$first" ;;
         'bad line') printf 'device %s 00\n' "$first" ;;
         'never ok') sleep 20 ;;
+        'never at an end') while echo '# still starting'; do sleep 0.02; done ;;
         esac
         case $wrong in
         unasked) printf 'ok\nd:99\n' ;;
