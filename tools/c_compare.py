@@ -32,6 +32,7 @@ LEFT_OUT = {
     **{name: "its devices compute their answers" for name in ("amid", "living", "sessions", "endless", "programs", "inside", "together",
                                                               "scarce")},
     **{name: "its buses begin and end by Tirnouch's calls" for name in ("bare", "buses", "kept", "outlive", "within")},
+    "misuse": "what is wrong in it is undefined there",
     "expects": "what it expects of a driver is Tirnouch's",
     "environment": "its variables are Tirnouch's",
     "fork": "libusb says nothing of a child of fork",

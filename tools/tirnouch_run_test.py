@@ -41,7 +41,7 @@ class Trial:
                               timeout=SECONDS, check=False)
 
     def go(self, kind: str, *words: str) -> "subprocess.CompletedProcess[str]":
-        return self.run([str(DEVICES), *words, "--", str(self.program), kind])
+        return self.run([str(DEVICES), *words, "--", str(self.program), *kind.split()])
 
     def expect(self, ran: "subprocess.CompletedProcess[str]", status: int, *sentences: str) -> None:
         """The status; and each sentence stands in what was printed."""
@@ -293,6 +293,42 @@ def a_program_of_a_device_expects(trial: Trial) -> None:
     trial.expect(ran, 3, DIFFERS)
 
 
+# What is told where a transfer is freed before its callback.
+MISUSE = ("libusb: error misuse: libusb_free_transfer: the transfer of 8 bytes at 81 is cancelled, and its callback didn't run yet: "
+          "free it in its callback, or behind that\n")
+
+
+def misuse_makes_the_status(trial: Trial) -> None:
+    """At any level of the log; and a status of the program's own stays."""
+    judged = f"tirnouch-run: {trial.program} did what libusb's manual forbids: status 3 in place of 0 (--lenient only tells)\n"
+    trial.expect(trial.go("frees before"), 3, MISUSE, judged)
+    trial.expect(trial.go("frees before", "--limit", "20s"), 3, MISUSE, judged)
+    silent = trial.run([str(DEVICES), "--", str(trial.program), "frees", "before"], {"LIBUSB_DEBUG": "0"})
+    trial.expect(silent, 3, MISUSE, judged)
+    failed = trial.go("frees before 7")
+    trial.expect(failed, 7, MISUSE)
+    trial.check("status 3" not in failed.stderr, f"told {failed.stderr!r}")
+    ran = trial.go("frees before", "--seeds", "1-2", "--keep-going")
+    trial.expect(ran, 1, "seed 1 failed: it did what libusb's manual forbids\n", MISUSE, "so did 2\n", "2 runs, 2 failed")
+    traced = (trial.folder / "tirnouch-seed-1.trace").read_text()
+    trial.check("# misuse: libusb_free_transfer: the transfer of 8 bytes at 81" in traced, "the trace says nothing of it")
+
+
+def lenient_runs_only_tell_misuse(trial: Trial) -> None:
+    for words in ([], ["--limit", "20s"]):
+        ran = trial.go("frees before", "--lenient", *words)
+        trial.expect(ran, 0, MISUSE)
+        trial.check("status 3" not in ran.stderr, f"told {ran.stderr!r}")
+    trial.expect(trial.go("frees before", "--lenient", "--seeds", "1-3"), 0, "3 runs, 0 failed")
+
+
+def what_is_allowed_is_not_told(trial: Trial) -> None:
+    for words in ([], ["--seeds", "1-20"]):
+        ran = trial.go("frees behind", *words)
+        trial.expect(ran, 0)
+        trial.check("misuse" not in ran.stdout + ran.stderr, f"told {ran.stdout!r} {ran.stderr!r}")
+
+
 def environment_of(process: str) -> str:
     """The environment of a process; nothing where it has ended."""
     try:
@@ -348,7 +384,9 @@ int main(void)
     if (libusb_init(&context))
         return 1;
     libusb_device_handle *handle = libusb_open_device_with_vid_pid(context, 0x1209, 2);
-    int result = handle ? libusb_bulk_transfer(handle, 0x81, data, 8, &moved, 1000) : -1;
+    int result = handle ? libusb_claim_interface(handle, 0) : -1;
+    if (!result)
+        result = libusb_bulk_transfer(handle, 0x81, data, 8, &moved, 1000);
     printf("answer %d, %d bytes: %d\\n", result, moved, data[0]);
     libusb_close(handle);
     libusb_exit(context);
@@ -376,7 +414,8 @@ TRIALS = [
     over_limit("events"), over_limit("loop"), over_limit("before", "ended by SIGTERM", "there is no trace"), over_limit("deadlock"),
     over_limit("deaf"), a_limit_tells_the_last_steps, a_limit_ends_children_too, signals_are_passed_on, the_terminal_is_the_programs,
     what_is_written_is_judged, other_differences_make_the_status, a_status_of_its_own_stays, lenient_runs_only_tell,
-    each_seed_is_judged, a_program_of_a_device_expects, a_device_is_loaded_before_the_program, seeds_stop_at_the_lowest, seeds_have_a_limit,
+    each_seed_is_judged, misuse_makes_the_status, lenient_runs_only_tell_misuse, what_is_allowed_is_not_told,
+    a_program_of_a_device_expects, a_device_is_loaded_before_the_program, seeds_stop_at_the_lowest, seeds_have_a_limit,
     seeds_tell_other_failures, asked_to_end,
 ]
 

@@ -6,7 +6,7 @@
 #include <stdlib.h>
 #include <string.h>
 
-struct process process = { .lock = PTHREAD_MUTEX_INITIALIZER };
+struct process process = { .lock = PTHREAD_MUTEX_INITIALIZER, .release_transfer = free, .release_handle = free };
 _Thread_local int callbacks_within;
 
 /* Virtual time begins here, since 0 is no moment. */
@@ -231,6 +231,8 @@ static int begin_parts(const struct beginning *so)
 int bus_begin_so(const struct beginning *so)
 {
     process.failure[0] = 0;
+    begin_misuse();
+    process.looks_closer = process.tells_misuse;
     process.bus.is_there = true;
     for (int i = 0; i < DEVICES; i++)
         use_absent(i);

@@ -64,7 +64,7 @@ struct log_line;
 struct pipe;
 struct program;
 
-enum stage { AT_REST, QUEUED, IN_CORE, AT_CONTROL, ENDED };
+enum stage { AT_REST, QUEUED, IN_CORE, AT_CONTROL, ENDED, FREED };
 enum ask { ASKED_NOTHING, ASKED_TO_CANCEL, ASKED_TO_EXPIRE };
 /* What whoever handles events looks at behind that (`behind`). */
 enum behind { INTERRUPTED = 1, POLLED = 2, CLOSED = 4 };
@@ -214,6 +214,7 @@ struct libusb_device_handle {
     unsigned number;                  /* counted by the bus from 1 on; for logs */
     uint32_t claimed;                 /* a bit an interface that it holds */
     uint32_t asked;                   /* of these, those that the program claimed itself */
+    bool is_closing;                  /* where misuse is told: libusb_close was called */
     bool is_shut;                     /* it takes no transfer: it is being closed, or its device was plugged in anew since; */
     bool is_lost, detaches;           /* is_lost: the latter. All but a close is answered NO_DEVICE, as where its bus ended */
 };
@@ -226,6 +227,13 @@ struct notice {
     bool is_waiting, is_further;      /* in its context's list; in memory of its own, since a device may come and go again */
 };
 
+/* A callback that was called: of a transfer at this endpoint, of so many bytes, and when. */
+struct called {
+    uint8_t ep;
+    int length;
+    uint64_t moment;
+};
+
 struct libusb_context {
     struct libusb_context *next;
     struct transfers flying, ended;   /* in progress; to be called back */
@@ -233,6 +241,7 @@ struct libusb_context {
     pthread_t handler;                /* who handles events, where `is_handled` */
     struct libusb_device_handle *calling; /* whose callback runs there; */
     bool is_calling;                      /* or one of hotplug */
+    struct called called;                 /* where a transfer's runs, and `process.looks_closer` */
     bool is_open, is_handled;
     bool is_asleep;
     bool is_working;                  /* the handler isn't back yet: it sees by itself what is to be done */
@@ -342,68 +351,13 @@ extern struct process {
     unsigned buses;                   /* how many were begun */
     bool has_begun;                   /* the bus that is there was begun by tirnouch_begin, and tirnouch_end ends it */
     bool was_misused;                 /* it was told that the default context isn't the program's */
+    bool tells_misuse;                /* what libusb's manual forbids is told (misuse.c); */
+    bool looks_closer;                /* so each call is looked at as where it is told (`is_told`) */
+    void (*release_transfer)(void *); /* what is freed, and */
+    void (*release_handle)(void *);   /* what is closed: `free`, but where misuse is told */
     bool is_asking;                   /* atomic: a function of a device's is being asked */
     uint8_t nowhere[1];               /* where memory of no bytes lies: nobody reads or writes it */
 } process;
-
-/* In a device's function, and in a signal's handler amid a call, this thread has the lock already, and may not wait for it. A call that
- * only reads goes on without it (`lock_to_read`, whose answer is what `unlock_read` needs); one that can answer is refused
- * (`lock_unless_asked`); and where one can't, that is told, and the program ends (`lock`). The latter two are macros for the name of the
- * call. Each call comes by them, and so they are inline for its speed: whose the lock is, is asked only where somebody has it, as glibc's
- * says by itself. Without glibc's a device's function alone is found. */
-bool is_held_here(void) __attribute__((cold));
-bool refuse_held(const char *function) __attribute__((cold));
-void end_for_held(const char *function) __attribute__((cold));
-static inline bool is_asking(void) { return __atomic_load_n(&process.is_asking, __ATOMIC_ACQUIRE); }
-static inline bool is_held(void)
-{
-#ifdef __GLIBC__
-    return __atomic_load_n(&process.lock.__data.__lock, __ATOMIC_RELAXED);
-#else
-    return is_asking();
-#endif
-}
-static inline void lock_for(const char *function)
-{
-    if (is_held())
-        end_for_held(function);
-    pthread_mutex_lock(&process.lock);
-}
-static inline bool lock_unless_asked_for(const char *function)
-{
-    if (is_held() && refuse_held(function))
-        return false;
-    pthread_mutex_lock(&process.lock);
-    return true;
-}
-static inline bool lock_to_read(void)
-{
-    if (is_held() && is_held_here())
-        return false;
-    pthread_mutex_lock(&process.lock);
-    return true;
-}
-#define lock() lock_for(__func__)
-#define lock_unless_asked() lock_unless_asked_for(__func__)
-/* Behind a callback, or a wait: this thread hasn't the lock. */
-static inline void lock_again(void) { pthread_mutex_lock(&process.lock); }
-/* Behind the lock the program's log function is called, where there are lines for it. Where a call asked `is_told` at its end, and nothing
- * was, there are none: then the lock is given back by itself. */
-void unlock_and_give(void) __attribute__((cold));
-static inline void unlock_alone(void) { pthread_mutex_unlock(&process.lock); }
-static inline void unlock_behind(bool is_told)
-{
-    if (is_told)
-        unlock_and_give();
-    else
-        unlock_alone();
-}
-static inline void unlock(void) { unlock_behind(process.lines); }
-static inline void unlock_read(bool is_locked)
-{
-    if (is_locked)
-        unlock();
-}
 
 /* How many of the program's callbacks this thread is in, one within the other. */
 extern _Thread_local int callbacks_within;
@@ -417,6 +371,7 @@ static inline unsigned two_bytes(const uint8_t *at) { return (unsigned)at[0] | (
 /* An endpoint's place among 32: twice its number, and one more for IN. */
 static inline unsigned place_of(uint8_t ep) { return (ep & 15u) * 2 + (ep >> 7); }
 
+#include "locking.h"
 #include "calls.h"
 #include "inline.h"
 #include "living.h"

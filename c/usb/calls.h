@@ -75,6 +75,23 @@ void write_all_why(int file);
 typedef void left_fn(void *to, struct transfer *transfer, const struct sentence *left);
 void each_left_of_all(left_fn *say, void *to);
 
+
+/* misuse.c: what libusb's manual forbids */
+void begin_misuse(void);
+bool is_dead(const struct libusb_context *context);
+void tell_misuse(const char *format, ...) __attribute__((format(printf, 1, 2)));
+void tell_dead(const struct libusb_context *context, const char *function, const char *what);
+void tell_free(struct transfer *transfer);
+void tell_flying(struct transfer *transfer, const char *function);
+int refuse_wait(const struct libusb_context *context, const char *function, uint8_t ep);
+void tell_unclaimed(const struct libusb_transfer *transfer, int interface);
+void tell_open(const struct libusb_device_handle *handle);
+void tell_unreferenced(const struct libusb_device *device);
+
+/* sync.c: transfers of synchronous calls, and the name of such a one's call */
+bool is_awaited(const struct libusb_transfer *transfer);
+const char *name_of_awaited(const struct libusb_transfer *transfer);
+
 /* limit.c: TIRNOUCH_LIMIT, and the limit of one bus */
 void begin_limit(void);
 int begin_limit_of(unsigned turn, unsigned milliseconds);
@@ -102,7 +119,7 @@ void trace_feed(const struct pipe *pipe, uint8_t kind, const uint8_t *bytes, int
 
 /* claims.c */
 int claim(struct libusb_device_handle *handle, int interface);
-int claim_unasked(struct libusb_device_handle *handle, int interface);
+int claim_unasked(struct libusb_device_handle *handle, int interface, const struct libusb_transfer *transfer);
 void unclaim(struct libusb_device_handle *handle, int interface);
 void use_setting(struct device *device, int interface, int setting);
 int name_interface(struct device *device, int interface, int name);

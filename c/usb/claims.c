@@ -107,9 +107,11 @@ int claim(struct libusb_device_handle *handle, int interface)
     return 0;
 }
 
-int claim_unasked(struct libusb_device_handle *handle, int interface)
+int claim_unasked(struct libusb_device_handle *handle, int interface, const struct libusb_transfer *transfer)
 {
     int r = claim(handle, interface);
+    if (!r && transfer)
+        tell_unclaimed(transfer, interface);
     if (!r)
         note(handle->context, LIBUSB_LOG_LEVEL_INFO, "interface %d is used before it is claimed: it is claimed", interface);
     return r;

@@ -186,12 +186,13 @@ static void close_handles(struct libusb_context *context)
             handle = handle->next;
             continue;
         }
+        tell_open(handle);
         note(context, LIBUSB_LOG_LEVEL_WARNING, "the application left some devices open: handle %u is closed", handle->number);
         for (int i = 0; i < INTERFACES; i++)
             handle->device->interfaces[i].is_left |= handle->claimed >> i & 1;
         unlock();
         libusb_close(handle);
-        lock();
+        lock_again();
         handle = process.handles;
     }
 }
@@ -224,9 +225,19 @@ static void end_devices(struct libusb_context *context)
         note(context, LIBUSB_LOG_LEVEL_WARNING, "device 1.1 is still referenced at libusb_exit");
 }
 
+/* What libusb's manual has the program end before, and handles close. */
+static void tell_left(struct libusb_context *context)
+{
+    for (struct transfer *it = context->flying.first; it; it = it->next)
+        tell_flying(it, "libusb_exit");
+    for (struct transfer *it = context->ended.first; it; it = it->behind)
+        tell_flying(it, "libusb_exit");
+}
+
 static void end(struct libusb_context *context)
 {
     context->is_open = false;
+    tell_left(context);
     tell_all_why(context, "is in flight at libusb_exit");
     close_handles(context);
     send_away(context);

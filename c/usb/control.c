@@ -16,10 +16,10 @@ static int hold(struct libusb_device_handle *handle, const uint8_t *setup)
     struct tirnouch_needed needed;
     tirnouch_needs(setup, &needed);
     if (needed.kind == TIRNOUCH_NEEDS_INTERFACE)
-        return needed.interface < INTERFACES ? claim_in_passing(handle, needed.interface) : LIBUSB_ERROR_NOT_FOUND;
+        return needed.interface < INTERFACES ? claim_in_passing(handle, needed.interface, NULL) : LIBUSB_ERROR_NOT_FOUND;
     if (needed.kind == TIRNOUCH_NEEDS_ENDPOINT) {
         const struct pipe *pipe = &handle->device->pipes[place_of(needed.endpoint)];
-        return pipe->kind ? claim_in_passing(handle, pipe->interface) : LIBUSB_ERROR_NOT_FOUND;
+        return pipe->kind ? claim_in_passing(handle, pipe->interface, NULL) : LIBUSB_ERROR_NOT_FOUND;
     }
     return 0;
 }

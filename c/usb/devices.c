@@ -136,7 +136,8 @@ void take_devices(struct libusb_context *context)
 }
 
 /* One reference less, with the lock, since a context that has ended goes with the last of all references to its devices: of two threads
- * that drop one each, only the second may free it. Whether it was the last. */
+ * that drop one each, only the second may free it. Whether it was the last. One that its context has still was dropped once too often, and
+ * stays. */
 bool drop_device(struct libusb_device *device)
 {
     struct libusb_context *context = device->context;
@@ -145,6 +146,11 @@ bool drop_device(struct libusb_device *device)
     if (device == &context->hub) {
         release_context(context);
         return true;
+    }
+    if (context->devices[device->device->number] == device) {
+        tell_unreferenced(device);
+        __atomic_store_n(&device->references, 1, __ATOMIC_RELEASE);
+        return false;
     }
     let_go_of_device(device->device);
     free(device);

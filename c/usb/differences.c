@@ -22,7 +22,7 @@ static struct {
 } differences;
 
 /* In one write, so that lines of several processes don't mix. */
-static void write_down(const char *word, const char *sentence)
+void write_down(const char *word, const char *sentence)
 {
     const char *name = getenv("TIRNOUCH_DIFFERENCES");
     if (!name || !*name || differences.is_unwritten)

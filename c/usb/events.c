@@ -93,6 +93,14 @@ void step_down(struct libusb_context *context)
     tell_leaver(context);
 }
 
+/* Where each call is looked at. */
+static void look_at_callback(struct libusb_context *context, const struct libusb_transfer *it)
+{
+    if (process.looks_closer)
+        context->called = (struct called){ .ep = it->endpoint, .length = it->length, .moment = now() };
+    note_call(context, it->actual_length, "callback", "endpoint %02x, status %d, bytes", it->endpoint, (int)it->status);
+}
+
 static void call_back(struct libusb_context *context, struct transfer *transfer)
 {
     struct libusb_transfer *it = public_of(transfer);
@@ -103,7 +111,7 @@ static void call_back(struct libusb_context *context, struct transfer *transfer)
         pthread_cond_broadcast(&context->moved);
     bool told = is_told(context, 0);
     if (told)
-        note_call(context, it->actual_length, "callback", "endpoint %02x, status %d, bytes", it->endpoint, (int)it->status);
+        look_at_callback(context, it);
     unlock_behind(told);
     callbacks_within++;
     if (it->callback)

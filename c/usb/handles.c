@@ -102,6 +102,18 @@ static void await_callbacks(struct libusb_device_handle *handle)
         forget_to_mind(context, CLOSED);
 }
 
+/* Where each call is looked at: whether it is closed already, or being closed, which is told. */
+static bool is_closed_before(struct libusb_device_handle *handle)
+{
+    bool r = handle->is_closing;
+    if (r && !is_dead(handle->context))
+        tell_misuse("libusb_close on a handle that is being closed: handle %u", handle->number);
+    else
+        note_call(handle->context, 0, "libusb_close", "handle %u", handle->number);
+    handle->is_closing = process.tells_misuse;
+    return r;
+}
+
 /* New transfers are refused first; then what is in progress is dropped. */
 void libusb_close(libusb_device_handle *handle)
 {
@@ -110,7 +122,10 @@ void libusb_close(libusb_device_handle *handle)
     lock();
     struct libusb_context *context = handle->context;
     random_steps();
-    note_handle(handle, 0, __func__);
+    if (is_told(context, 0) && is_closed_before(handle)) {
+        unlock_alone();
+        return;
+    }
     handle->is_shut = true;
     await_callbacks(handle);
     withdraw(handle, -1, true);
@@ -119,9 +134,9 @@ void libusb_close(libusb_device_handle *handle)
     leave_handles(handle);
     process.bus.stirs++;
     disturb(context);
+    drop_device(handle->of);
+    process.release_handle(handle);
     unlock();
-    libusb_unref_device(handle->of);
-    free(handle);
 }
 
 int libusb_get_configuration(libusb_device_handle *handle, int *value)
@@ -172,7 +187,7 @@ static int clear_halt(struct libusb_device_handle *handle, uint8_t ep)
         return LIBUSB_ERROR_NO_DEVICE;
     if (!pipe->kind)
         return LIBUSB_ERROR_NOT_FOUND;
-    int r = claim_in_passing(handle, pipe->interface);
+    int r = claim_in_passing(handle, pipe->interface, NULL);
     if (r)
         return r;
     if (pipe->is_unset)

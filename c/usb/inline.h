@@ -78,10 +78,10 @@ static inline void random_steps(void)
 }
 
 /* An interface that is used before it was claimed is claimed, as Linux has it: the handle holds it until it is closed, or claims it itself
- * and releases it. */
-static inline int claim_in_passing(struct libusb_device_handle *handle, int interface)
+ * and releases it. By a transfer at one of its endpoints, or NULL. */
+static inline int claim_in_passing(struct libusb_device_handle *handle, int interface, const struct libusb_transfer *transfer)
 {
-    return handle->claimed >> interface & 1 ? 0 : claim_unasked(handle, interface);
+    return handle->claimed >> interface & 1 ? 0 : claim_unasked(handle, interface, transfer);
 }
 
 /* A transfer at an endpoint ended: without an answer, where it was withdrawn before there was one. */

@@ -49,6 +49,7 @@ void expect_requests_anew(struct device *device);
 /* differences.c: what differs is told, and once more at the end */
 bool tell_difference(const struct device *device, const struct sentence *it);
 void each_difference(missing_fn *say, void *to);
+void write_down(const char *word, const char *sentence);
 void begin_judging(void);
 void report_differences(void);
 

@@ -28,7 +28,8 @@ static const char *const names[] = { "none", "error", "warning", "info", "debug"
 /* Where lines wait each call looks whether something is told of it (`is_told`), and so finds them as it gives back the lock. */
 void set_told_level(struct libusb_context *context)
 {
-    __atomic_store_n(&context->told_level, process.lines ? LIBUSB_LOG_LEVEL_DEBUG : context->log_level, __ATOMIC_RELAXED);
+    bool is_all = process.lines || process.looks_closer;
+    __atomic_store_n(&context->told_level, is_all ? LIBUSB_LOG_LEVEL_DEBUG : context->log_level, __ATOMIC_RELAXED);
 }
 
 static void set_told_levels(void)
@@ -136,18 +137,24 @@ void note(struct libusb_context *context, enum libusb_log_level level, const cha
     give_out(context, level, line, sizeof line);
 }
 
-/* What a call was asked, and what it answered: at level 3 where it was refused, at level 4 else. */
+/* What a call was asked, and what it answered: at level 3 where it was refused, at level 4 else. One with what was closed or freed before is
+ * misuse (misuse.c). */
 void note_call(struct libusb_context *context, int answer, const char *function, const char *format, ...)
 {
-    char line[512];
+    char line[512], what[400];
     enum libusb_log_level level = answer < 0 ? LIBUSB_LOG_LEVEL_INFO : LIBUSB_LOG_LEVEL_DEBUG;
-    if ((int)level > context->log_level)
+    bool is_misuse = is_dead(context);
+    if (!is_misuse && (int)level > context->log_level)
         return;
-    int length = snprintf(line, sizeof line, "libusb: %s [%s] ", names[level], function);
     va_list rest;
     va_start(rest, format);
-    length += vsnprintf(line + length, sizeof line - (size_t)length, format, rest);
+    vsnprintf(what, sizeof what, format, rest);
     va_end(rest);
+    if (is_misuse) {
+        tell_dead(context, function, what);
+        return;
+    }
+    int length = snprintf(line, sizeof line, "libusb: %s [%s] %s", names[level], function, what);
     size_t left = (size_t)length < sizeof line ? sizeof line - (size_t)length : 0;
     if (left && answer < 0)
         snprintf(line + length, left, ": %s", libusb_error_name(answer));

@@ -10,6 +10,15 @@ static void complete(struct libusb_transfer *transfer)
     __atomic_store_n((int *)transfer->user_data, 1, __ATOMIC_RELEASE);
 }
 
+bool is_awaited(const struct libusb_transfer *transfer) { return transfer->callback == complete; }
+
+const char *name_of_awaited(const struct libusb_transfer *transfer)
+{
+    return transfer->type == LIBUSB_TRANSFER_TYPE_CONTROL ? "libusb_control_transfer"
+           : transfer->type == LIBUSB_TRANSFER_TYPE_BULK  ? "libusb_bulk_transfer"
+                                                          : "libusb_interrupt_transfer";
+}
+
 /* A callback may not wait for another, nor may a device's function; `function` is what it calls. */
 static bool may_not_wait(struct libusb_context *context, const char *function)
 {
@@ -82,7 +91,7 @@ int libusb_control_transfer(libusb_device_handle *handle, uint8_t type, uint8_t 
     struct libusb_context *context = handle->context;
     int completed = 0;
     if (may_not_wait(context, __func__))
-        return LIBUSB_ERROR_BUSY;
+        return refuse_wait(context, __func__, 0);
     struct libusb_transfer *transfer = libusb_alloc_transfer(0);
     unsigned char few[LIBUSB_CONTROL_SETUP_SIZE + FEW_BYTES];
     unsigned char *buffer = length <= FEW_BYTES ? few : malloc(LIBUSB_CONTROL_SETUP_SIZE + length);
@@ -113,7 +122,7 @@ static int move(libusb_device_handle *handle, uint8_t ep, uint8_t type, unsigned
     struct libusb_context *context = handle->context;
     int completed = 0;
     if (may_not_wait(context, function))
-        return LIBUSB_ERROR_BUSY;
+        return refuse_wait(context, function, ep);
     struct libusb_transfer *transfer = libusb_alloc_transfer(0);
     if (!transfer)
         return LIBUSB_ERROR_NO_MEM;

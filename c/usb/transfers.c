@@ -56,7 +56,7 @@ void end_transfer(struct transfer *transfer, enum libusb_transfer_status status,
     if (transfer->is_dropped) {
         transfer->stage = AT_REST;
         if (transfer->is_freed)
-            free(transfer);
+            process.release_transfer(transfer);
         return;
     }
     transfer->stage = ENDED;
@@ -113,6 +113,8 @@ static void drop_ended(struct libusb_device_handle *handle)
         behind = it->behind;
         if (it->handle != handle)
             continue;
+        if (handle->context->is_open && !it->is_dropped)
+            tell_flying(it, "libusb_close");
         leave(ended, it);
         it->stage = AT_REST;
         __atomic_store_n(&public_of(it)->dev_handle, NULL, __ATOMIC_RELEASE);
@@ -131,6 +133,8 @@ void withdraw(struct libusb_device_handle *handle, int interface, bool drops)
         if (it->handle != handle || (interface >= 0 && (!it->pipe || it->pipe->interface != interface)))
             continue;
         if (drops) {
+            if (context->is_open)
+                tell_flying(it, "libusb_close");
             if (context->is_open)
                 tell_why(it, "is in flight as its handle is closed", true);
             note(context, LIBUSB_LOG_LEVEL_ERROR, "a handle is closed with a transfer in flight at %02x: it is dropped",
@@ -169,7 +173,7 @@ static int submit_to_pipe(struct transfer *transfer)
         return LIBUSB_ERROR_NOT_FOUND;
     if (!fits(pipe, it))
         return pipe->is_unset ? LIBUSB_ERROR_IO : LIBUSB_ERROR_INVALID_PARAM;
-    int r = claim_in_passing(transfer->handle, pipe->interface);
+    int r = claim_in_passing(transfer->handle, pipe->interface, it);
     if (r)
         return r;
     if (pipe->is_unset)
@@ -225,9 +229,17 @@ static int submit(struct transfer *transfer)
     return 0;
 }
 
-static void note_submission(const struct libusb_transfer *it, int answer)
+/* Of one that was freed, or of a handle that was closed, too; a synchronous call tells of its own. */
+static void note_submission(struct libusb_transfer *it, int answer)
 {
-    note_call(it->dev_handle->context, answer, "libusb_submit_transfer", "handle %u, endpoint %02x, type %u, %d bytes, timeout %u",
+    struct libusb_context *context = it->dev_handle->context;
+    if (private_of(it)->stage == FREED) {
+        note_call(private_of(it)->context, answer, "libusb_submit_transfer", "endpoint %02x, %d bytes", it->endpoint, it->length);
+        return;
+    }
+    if (is_dead(context) && is_awaited(it))
+        return;
+    note_call(context, answer, "libusb_submit_transfer", "handle %u, endpoint %02x, type %u, %d bytes, timeout %u",
               it->dev_handle->number, it->endpoint, it->type, it->length, it->timeout);
 }
 
@@ -273,13 +285,15 @@ void libusb_free_transfer(struct libusb_transfer *transfer)
     struct transfer *it = private_of(transfer);
     lock();
     unsigned char *buffer = transfer->flags & LIBUSB_TRANSFER_FREE_BUFFER ? transfer->buffer : NULL;
-    bool is_flying = it->stage != AT_REST && it->stage != ENDED;
+    bool is_flying = it->stage != AT_REST;
     transfer->buffer = NULL;
-    if (!is_flying) {
-        if (it->stage == ENDED)
-            leave(&it->context->ended, it);
-        free(it);
-    } else {
+    if (is_flying && process.tells_misuse)
+        tell_free(it);
+    if (it->stage == ENDED)
+        leave(&it->context->ended, it);
+    if (it->stage == AT_REST || it->stage == ENDED) {
+        process.release_transfer(it);
+    } else if (it->stage != FREED) {
         note(it->context, LIBUSB_LOG_LEVEL_ERROR, "a transfer is freed in flight at %02x: it is cancelled and dropped",
              transfer->endpoint);
         it->is_dropped = it->is_freed = true;

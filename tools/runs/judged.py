@@ -1,18 +1,19 @@
-"""What a program wrote, where its devices' text says what is expected (docs/DEVICES.md): the library tells it by a file that a variable
-names. A run with a difference ends with a status of its own, though the program's was 0."""
+"""What a program wrote, where its devices' text says what is expected (docs/DEVICES.md), and what it did that libusb's manual forbids: the
+library tells both by a file that a variable names. A run with either ends with a status of its own, though the program's was 0."""
 import os
 import pathlib
-from typing import Dict, Sequence
+from typing import Dict, Optional, Sequence
 
 from program import tell
 
-# The status of a run that ended well, and in which something else was written than is expected.
+# The status of a run that ended well, and in which something else was written than is expected, or libusb was misused.
 DIFFERS = 3
 NAME = b"TIRNOUCH_DIFFERENCES"
 
 
 class Judgement:
-    """The file that the library writes in a run: a line `begun` for each bus that is judged, `ended` where its end was, `differs ..`."""
+    """The file that the library writes in a run: a line `begun` for each bus that is judged, `ended` where its end was, `differs ..`, and
+    `misused ..`."""
 
     def __init__(self, folder: pathlib.Path) -> None:
         self.path = folder / "differences"
@@ -26,6 +27,15 @@ class Judgement:
     def differs(self) -> bool:
         return any(it.startswith("differs ") for it in self.lines())
 
+    def is_misused(self) -> bool:
+        return any(it.startswith("misused ") for it in self.lines())
+
+    def failure(self) -> Optional[str]:
+        """What is wrong with a run that ended well, if something is."""
+        if self.is_misused():
+            return "it did what libusb's manual forbids"
+        return "it wrote something else than is expected" if self.differs() else None
+
     def is_whole(self) -> bool:
         """Whether the end of each bus was judged."""
         lines = self.lines()
@@ -35,6 +45,9 @@ class Judgement:
         """The status of a run in the foreground, of which the program's own is this."""
         if status == 0 and self.differs():
             tell(f"what {program} wrote isn't what {devices} expects: status {DIFFERS} in place of 0 (--lenient only tells)")
+            return DIFFERS
+        if status == 0 and self.is_misused():
+            tell(f"{program} did what libusb's manual forbids: status {DIFFERS} in place of 0 (--lenient only tells)")
             return DIFFERS
         if status == 0 and not self.is_whole():
             tell(f"{program} ended without exit and without libusb_exit: what it didn't write isn't known")

@@ -73,8 +73,8 @@ class Seeds:
         if limit and status == OVER and time.monotonic() - began >= int(limit[1]) / 1000:
             status = None  # the library ended it
         failure = f"it didn't end within {limit[0]}" if limit and status is None else failure_of(status or 0)
-        if not failure and not self.words.lenient and Judgement(self.at(seed)).differs():
-            failure = "it wrote something else than is expected"
+        if not self.words.lenient:
+            failure = failure or Judgement(self.at(seed)).failure()
         return Outcome(seed, failure, steps_of(self.at(seed)))
 
     def finish(self, outcome: Outcome) -> None:

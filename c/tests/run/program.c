@@ -202,6 +202,18 @@ static int writes(const char *how)
     return end(!strcmp(how, "fails") ? 7 : 0);
 }
 
+/* Frees a read behind its callback, or behind its cancel alone, which libusb's manual forbids; and ends, or fails. */
+static int frees(const char *when, int status)
+{
+    begin();
+    struct libusb_transfer *transfer = read_to(0);
+    libusb_cancel_transfer(transfer);
+    while (!strcmp(when, "behind") && statuses[0] < 0)
+        libusb_handle_events(NULL);
+    libusb_free_transfer(transfer);
+    return end(status);
+}
+
 int main(int count, char **words)
 {
     static const struct {
@@ -217,5 +229,7 @@ int main(int count, char **words)
             return all[i].run();
     if (count > 2 && !strcmp(words[1], "writes"))
         return writes(words[2]);
+    if (count > 2 && !strcmp(words[1], "frees"))
+        return frees(words[2], count > 3 ? atoi(words[3]) : 0);
     return count > 2 ? atoi(words[2]) : 2;
 }
