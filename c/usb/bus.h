@@ -88,6 +88,7 @@ struct transfer {
     bool is_dropped, is_freed;        /* no callback: its handle was closed; and nobody has it any more */
     bool is_stalled;                  /* its endpoint was halted by a request: the cancel that ends it is told as a stall */
     bool is_moving;                   /* it goes on in a new session of its device's core: the cancel that ends it there isn't told */
+    uint32_t stream;                  /* as the program has set it, for nothing here */
 };
 
 struct transfers {

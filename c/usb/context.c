@@ -2,7 +2,9 @@
 #include "bus.h"
 
 #include <fcntl.h>
+#include <errno.h>
 #include <stdlib.h>
+#include <string.h>
 #include <sys/eventfd.h>
 #include <unistd.h>
 
@@ -118,6 +120,7 @@ static int begin(struct libusb_context *context)
         return r;
     context->event = eventfd(0, EFD_NONBLOCK | EFD_CLOEXEC);
     if (context->event < 0) {
+        tell_failure("libusb_init: the system gives no descriptor for events (%s): close some, or raise the limit (ulimit -n)", strerror(errno));
         take_devices(context);
         return LIBUSB_ERROR_OTHER;
     }

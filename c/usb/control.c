@@ -103,6 +103,16 @@ static void look_again(uint64_t moment)
         *again = moment;
 }
 
+/* One that means nothing is told, and breaks the transaction. */
+static int known_answer(const struct device *device, const uint8_t *setup, int answer)
+{
+    if (answer == TIRNOUCH_STALL || answer == TIRNOUCH_BROKEN || answer == TIRNOUCH_GONE)
+        return answer;
+    tell_failure("device %d: its function answered %d to request %02x %02x %04x %04x, which is no answer: a broken transaction", device->number,
+                 answer, setup[0], setup[1], two_bytes(setup + 2), two_bytes(setup + 4));
+    return TIRNOUCH_BROKEN;
+}
+
 /* By a function or a program, or by the device's text. */
 static int ask(struct transfer *transfer, const uint8_t *setup, uint8_t *data, int length)
 {
@@ -110,7 +120,7 @@ static int ask(struct transfer *transfer, const uint8_t *setup, uint8_t *data, i
     if (answer == TIRNOUCH_AS_TEXT)
         return answer_by_text(transfer, setup, data, length);
     if (answer != TIRNOUCH_NOT_READY && answer > TIRNOUCH_LATER(0))
-        return answer < length ? answer : length;
+        return answer >= 0 ? (answer < length ? answer : length) : known_answer(transfer->handle->device, setup, answer);
     uint64_t again = moment_later(moment_asked(transfer->later, begun(transfer)), answer);
     transfer->naks++;
     transfer->later = answer == TIRNOUCH_NOT_READY && !process.bus.past ? 0 : again;

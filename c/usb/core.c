@@ -77,7 +77,11 @@ static void trace_request(struct transfer *transfer, int length, uint8_t flags)
         trace_text(flags & LIBUSB_TRANSFER_ADD_ZERO_PACKET ? " flags=SHORT_NOT_OK+ADD_ZERO_PACKET" : " flags=SHORT_NOT_OK");
     else if (flags & LIBUSB_TRANSFER_ADD_ZERO_PACKET)
         trace_text(" flags=ADD_ZERO_PACKET");
-    trace_text(transfer->deadline ? " timeout=1\n" : "\n");
+    if (transfer->deadline) {
+        trace_text(" timeout=");
+        trace_number(public_of(transfer)->timeout ? public_of(transfer)->timeout : 1);
+    }
+    trace_text("\n");
 }
 
 void trace_submission(struct transfer *transfer, int length, uint8_t flags, int answer)

@@ -66,7 +66,8 @@ static void give_out(struct libusb_context *context, enum libusb_log_level level
         fputs(line, stderr);
 }
 
-/* With the lock, which is given back meanwhile. The function is that of this moment. */
+/* With the lock, which is given back meanwhile. The function is that of this moment; one for all contexts is given none, as by libusb (core.c,
+ * `log_str`). */
 static void give_line(void)
 {
     struct log_line *it = process.lines;
@@ -77,7 +78,7 @@ static void give_line(void)
     if (own)
         own(it->context, it->level, it->text);
     if (all)
-        all(it->context, it->level, it->text);
+        all(NULL, it->level, it->text);
     if (!own && !all)
         fputs(it->text, stderr);
     callbacks_within--;

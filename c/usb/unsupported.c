@@ -34,14 +34,13 @@ int libusb_dev_mem_free(libusb_device_handle *dev_handle, unsigned char *buffer,
     return LIBUSB_ERROR_NOT_SUPPORTED;
 }
 
-/* No transfer is one of a stream, since there are none. */
+/* No transfer is one of a stream, since there are none: it is only kept, as the program's own. */
 void libusb_transfer_set_stream_id(struct libusb_transfer *transfer, uint32_t stream_id)
 {
-    (void)transfer, (void)stream_id;
+    private_of(transfer)->stream = stream_id;
 }
 
 uint32_t libusb_transfer_get_stream_id(struct libusb_transfer *transfer)
 {
-    (void)transfer;
-    return 0;
+    return private_of(transfer)->stream;
 }
