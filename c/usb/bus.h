@@ -264,7 +264,6 @@ struct libusb_context {
     pthread_cond_t happened;          /* with `waiters`: a callback returned, or nobody handles events any more */
     struct notice all_notices[DEVICES][2];
     struct libusb_device *devices[DEVICES]; /* of the bus that is there; NULL where it has no such device; */
-    struct libusb_device *coming;     /* that of a device which is being plugged in again; else NULL; */
     struct libusb_device hub;         /* and the root hub, in each bus and without any */
     int hotplug_ids;
     int log_level;

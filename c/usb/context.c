@@ -120,7 +120,8 @@ static int begin(struct libusb_context *context)
         return r;
     context->event = eventfd(0, EFD_NONBLOCK | EFD_CLOEXEC);
     if (context->event < 0) {
-        tell_failure("libusb_init: the system gives no descriptor for events (%s): close some, or raise the limit (ulimit -n)", strerror(errno));
+        tell_failure("libusb_init: the system gives no descriptor for events (%s): close some, or raise the limit (ulimit -n)",
+                     strerror(errno));
         take_devices(context);
         return LIBUSB_ERROR_OTHER;
     }
@@ -219,9 +220,11 @@ static void end_devices(struct libusb_context *context)
 {
     for (int i = 0; i < DEVICES; i++) {
         struct libusb_device *it = context->devices[i];
-        uint8_t address = it ? it->address : 0;
+        if (!it)
+            continue;
+        uint8_t address = it->address;
         context->devices[i] = NULL;
-        if (it && !drop_device(it))
+        if (!drop_device(it))
             note(context, LIBUSB_LOG_LEVEL_WARNING, "device 1.%u is still referenced at libusb_exit", address);
     }
     if (!drop_device(&context->hub))

@@ -108,8 +108,8 @@ static int known_answer(const struct device *device, const uint8_t *setup, int a
 {
     if (answer == TIRNOUCH_STALL || answer == TIRNOUCH_BROKEN || answer == TIRNOUCH_GONE)
         return answer;
-    tell_failure("device %d: its function answered %d to request %02x %02x %04x %04x, which is no answer: a broken transaction", device->number,
-                 answer, setup[0], setup[1], two_bytes(setup + 2), two_bytes(setup + 4));
+    tell_failure("device %d: its function answered %d to request %02x %02x %04x %04x, which is no answer: a broken transaction",
+                 device->number, answer, setup[0], setup[1], two_bytes(setup + 2), two_bytes(setup + 4));
     return TIRNOUCH_BROKEN;
 }
 

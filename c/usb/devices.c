@@ -65,38 +65,52 @@ static struct libusb_device *new_device(struct libusb_context *context, struct d
     return it;
 }
 
+/* While a device is being plugged in again: what each context is to have for it, in the order of contexts. */
+static struct libusb_device **coming;
+
 /* Before a device is plugged in again: each context has a new one for it ready. Where memory is refused none has: LIBUSB_ERROR_NO_MEM. */
 int prepare_anew(struct device *device)
 {
-    for (struct libusb_context *it = process.contexts; it; it = it->next) {
-        it->coming = new_device(it, device);
-        if (it->coming)
-            continue;
-        give_anew(device, NULL);
+    size_t count = 0, made = 0;
+    for (struct libusb_context *it = process.contexts; it; it = it->next)
+        count++;
+    coming = calloc(count + 1, sizeof *coming);
+    if (!coming)
         return LIBUSB_ERROR_NO_MEM;
-    }
-    return 0;
+    for (struct libusb_context *it = process.contexts; it; it = it->next)
+        made += (coming[made] = new_device(it, device)) != NULL;
+    if (made == count)
+        return 0;
+    give_anew(device, NULL);
+    return LIBUSB_ERROR_NO_MEM;
+}
+
+static void drop_past(struct libusb_device *it)
+{
+    it->is_past = true;
+    drop_device(it);
 }
 
 /* What is ready takes the place of those of before, which are the program's alone then, at this port and with another address; or it goes,
  * where there is no port, since the device isn't plugged in. */
 void give_anew(struct device *device, const int *port)
 {
+    for (size_t i = 0; !port && coming[i]; i++)
+        drop_past(coming[i]);
     if (port) {
         device->port = *port;
         give_address(device);
+        size_t i = 0;
+        for (struct libusb_context *it = process.contexts; it; it = it->next) {
+            struct libusb_device *old = it->devices[device->number];
+            it->devices[device->number] = coming[i++];
+            number_device(it->devices[device->number]);
+            if (old)
+                drop_past(old);
+        }
     }
-    for (struct libusb_context *it = process.contexts; it; it = it->next) {
-        struct libusb_device *coming = it->coming, **place = port ? &it->devices[device->number] : &it->coming, *old = *place;
-        it->coming = NULL;
-        *place = port ? coming : NULL;
-        if (port)
-            number_device(coming);
-        if (!old)
-            continue;
-        old->is_past = true;
-        drop_device(old);
-    }
+    free(coming);
+    coming = NULL;
 }
 
 /* The port at which one that was hidden so far is plugged in. */
@@ -111,7 +125,9 @@ void stand_at(struct device *device, int port)
 /* A context has the devices of the bus that is there. Where memory is refused it has none: LIBUSB_ERROR_NO_MEM. */
 int give_devices(struct libusb_context *context)
 {
-    for (int i = 0; process.bus.is_there && i < DEVICES; i++) {
+    if (!process.bus.is_there)
+        return 0;
+    for (int i = 0; i < DEVICES; i++) {
         struct device *device = process.bus.devices[i];
         if (!device->is_there)
             continue;

@@ -1,5 +1,5 @@
-/* What is told, and to whom: log callbacks, answers that mean nothing, a system without descriptors, a trace's timeouts, a stream's number. The
- * expected lines are written from libusb's manual and its core.c, and from tirnouch.h. */
+/* What is told, and to whom: log callbacks, answers that mean nothing, a system without descriptors, a trace's timeouts, a stream's number.
+ * The expected lines are written from libusb's manual and its core.c, and from tirnouch.h. */
 #include "scene.h"
 
 #include <fcntl.h>
