@@ -329,6 +329,27 @@ def what_is_allowed_is_not_told(trial: Trial) -> None:
         trial.check("misuse" not in ran.stdout + ran.stderr, f"told {ran.stdout!r} {ran.stderr!r}")
 
 
+def hints_are_told_where_a_run_fails(trial: Trial) -> None:
+    """And nothing where it doesn't."""
+    devices = trial.folder / "hints.txt"
+    devices.write_text(f"{DEVICES.read_text().splitlines()[0]}\nscript 0 81 d:0102030405060708 d:01*2\n")
+
+    def get(*how: str, words: Sequence[str] = ()) -> "subprocess.CompletedProcess[str]":
+        return trial.run([str(devices), *words, "--", str(trial.program), "gets", *how])
+
+    room = "hint: device 0: a packet of 8 bytes at 81 came into room for 4 (OVERFLOW)"
+    left = "hint: device 0: 81 has 2 answers left of 3, which nobody read\n"
+    lacking = "hint: device 0 has no endpoint 82 for bulk or interrupt transfers: it has 81 (bulk), 02 (bulk)\n"
+    trial.expect(get("81", "4", "1"), 1, f"tirnouch-run: {room}", f"tirnouch-run: {left}")
+    trial.expect(get("81", "8", "1", words=["--limit", "20s"]), 1, f"tirnouch-run: {left}")
+    trial.expect(get("82", "8", "1"), 1, f"tirnouch-run: {lacking}")
+    trial.expect(get("82", "8", "1", words=["--seeds", "1-1"]), 1, f"\n{lacking}")
+    for words in ([], ["--limit", "20s"], ["--seeds", "1-2"]):
+        ran = get("81", "4", "0", words=words)
+        trial.expect(ran, 0)
+        trial.check("hint" not in ran.stdout + ran.stderr, f"told {ran.stdout!r} {ran.stderr!r}")
+
+
 def environment_of(process: str) -> str:
     """The environment of a process; nothing where it has ended."""
     try:
@@ -412,11 +433,13 @@ def a_device_is_loaded_before_the_program(trial: Trial) -> None:
 TRIALS = [
     plain_runs_are_the_program, wrong_words_are_refused, help_names_every_word, programs_are_refused, the_version_is_told, a_limit_lets_a_program_end,
     over_limit("events"), over_limit("loop"), over_limit("before", "ended by SIGTERM", "there is no trace"), over_limit("deadlock"),
+    over_limit("callback", "libusb:   the callback of a transfer of 8 bytes at 81 runs, for "),
+    over_limit("function", "libusb:   device 0: its function for endpoint 81 doesn't return"),
     over_limit("deaf"), a_limit_tells_the_last_steps, a_limit_ends_children_too, signals_are_passed_on, the_terminal_is_the_programs,
     what_is_written_is_judged, other_differences_make_the_status, a_status_of_its_own_stays, lenient_runs_only_tell,
     each_seed_is_judged, misuse_makes_the_status, lenient_runs_only_tell_misuse, what_is_allowed_is_not_told,
-    a_program_of_a_device_expects, a_device_is_loaded_before_the_program, seeds_stop_at_the_lowest, seeds_have_a_limit,
-    seeds_tell_other_failures, asked_to_end,
+    hints_are_told_where_a_run_fails, a_program_of_a_device_expects, a_device_is_loaded_before_the_program, seeds_stop_at_the_lowest,
+    seeds_have_a_limit, seeds_tell_other_failures, asked_to_end,
 ]
 
 

@@ -65,6 +65,15 @@ static struct sentence say_whose(void)
     return it;
 }
 
+/* Without the lock, which another thread has for longer than a device may take, at a limit: what is asked there stays. */
+void write_who_is_asked(int file)
+{
+    if (is_asking())
+        dprintf(file, "libusb:   %s doesn't return\n", say_whose().text);
+    else
+        dprintf(file, "libusb:   a thread is in a call of the library that doesn't return\n");
+}
+
 static const char *name_of(const char *function)
 {
     return strncmp(function, "libusb_", 7) && strncmp(function, "tirnouch_", 9) ? "the library" : function;

@@ -232,7 +232,9 @@ int bus_begin_so(const struct beginning *so)
 {
     process.failure[0] = 0;
     begin_misuse();
-    process.looks_closer = process.tells_misuse;
+    begin_hints();
+    process.looks_closer = process.tells_misuse || so->limit || has_limit();
+    set_told_levels();
     process.bus.is_there = true;
     for (int i = 0; i < DEVICES; i++)
         use_absent(i);
@@ -275,6 +277,7 @@ int bus_begin(void)
 /* The core's handles are closed in the trace too, so that it blames nobody who tidied up. */
 void bus_end(void)
 {
+    hint_at_end();
     tell_left_open();
     end_all_flights();
     if (process.bus.is_judged)

@@ -228,7 +228,7 @@ struct notice {
     bool is_waiting, is_further;      /* in its context's list; in memory of its own, since a device may come and go again */
 };
 
-/* A callback that was called: of a transfer at this endpoint, of so many bytes, and when. */
+/* A callback that was called: of a transfer at this endpoint, of so many bytes, and when by the clock (`real_time`). */
 struct called {
     uint8_t ep;
     int length;

@@ -57,6 +57,7 @@ void note_call(struct libusb_context *context, int answer, const char *function,
     __attribute__((format(printf, 4, 5)));
 void watch_for(int level);
 void set_told_level(struct libusb_context *context);
+void set_told_levels(void);
 void give_before_waiting(struct libusb_context *context);
 void leave_lines(void);
 
@@ -88,12 +89,20 @@ void tell_unclaimed(const struct libusb_transfer *transfer, int interface);
 void tell_open(const struct libusb_device_handle *handle);
 void tell_unreferenced(const struct libusb_device *device);
 
+/* hints.c: what helps to see why a run failed */
+void begin_hints(void);
+void hint_at_overflow(const struct transfer *transfer, int moved);
+int hint_at_no_endpoint(const struct device *device, uint8_t ep);
+void hint_at_end(void);
+void write_hints(int file);
+
 /* sync.c: transfers of synchronous calls, and the name of such a one's call */
 bool is_awaited(const struct libusb_transfer *transfer);
 const char *name_of_awaited(const struct libusb_transfer *transfer);
 
 /* limit.c: TIRNOUCH_LIMIT, and the limit of one bus */
 void begin_limit(void);
+bool has_limit(void);
 int begin_limit_of(unsigned turn, unsigned milliseconds);
 void end_limit_of_bus(void);
 void hold_limit_for_fork(void);
@@ -108,7 +117,8 @@ void release_context(struct libusb_context *context);
 /* core.c: the core's calls, each of which the trace has. A negative answer is libusb's. */
 int core_call(struct core *core, enum tirnouch_verb verb, int name, uint8_t a, uint64_t n);
 _Noreturn void end_for_memory(void);
-void trace_submission(struct transfer *transfer, int length, uint8_t flags, int answer);
+int core_submit_watched(struct transfer *transfer, int length, uint8_t flags) __attribute__((cold));
+void fill_unwritten(uint8_t *at, int length);
 struct rest core_rest(const struct pipe *pipe);
 bool core_serves(const struct pipe *pipe);
 bool core_serve(struct pipe *pipe, uint32_t most, struct tirnouch_reply *reply);
@@ -188,6 +198,7 @@ void carry_out_request(struct device *device, const uint8_t *setup);
 
 /* timeouts.c */
 uint64_t now(void);
+uint64_t real_time(void);
 uint64_t end_of(const struct timeval *wait);
 struct timespec moment_behind(const struct timeval *wait);
 struct timespec moment_of(uint64_t nanoseconds);

@@ -189,14 +189,23 @@ void leave_unanswered(struct transfer *transfer, const char *status)
         trace_comment(device->core, "request %d %s", device->number, status);
 }
 
+/* For a trace, or with a seed. */
+static void look_at_answer(const struct device *device, uint8_t *setup, int answer)
+{
+    if (setup[0] & LIBUSB_ENDPOINT_IN && answer >= 0)
+        fill_unwritten(setup + SETUP + answer, (int)two_bytes(setup + 6) - answer);
+    if (process.bus.is_traced)
+        trace_request(device, setup, answer);
+}
+
 static void end_request(struct transfer *transfer, int answer)
 {
     struct device *device = transfer->handle->device;
-    const uint8_t *setup = public_of(transfer)->buffer;
+    uint8_t *setup = public_of(transfer)->buffer;
     bool is_short = answer < (int)two_bytes(setup + 6) && public_of(transfer)->flags & LIBUSB_TRANSFER_SHORT_NOT_OK;
     leave(&process.bus.controls, transfer);
-    if (process.bus.is_traced)
-        trace_request(device, setup, answer);
+    if (process.bus.is_watched)
+        look_at_answer(device, setup, answer);
     if (answer >= 0)
         carry_out_request(device, setup);
     if (answer >= 0)

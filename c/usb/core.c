@@ -3,6 +3,10 @@
 
 #include <stdio.h>
 #include <stdlib.h>
+#include <string.h>
+
+/* What stands in a buffer where no byte came to: no text, and a big number. */
+#define UNWRITTEN 0xa5
 
 /* The core gave back memory that isn't the transfer's: nothing is sure any more. */
 void end_for_memory(void)
@@ -84,7 +88,7 @@ static void trace_request(struct transfer *transfer, int length, uint8_t flags)
     trace_text("\n");
 }
 
-void trace_submission(struct transfer *transfer, int length, uint8_t flags, int answer)
+static void trace_submission(struct transfer *transfer, int length, uint8_t flags, int answer)
 {
     struct core *core = transfer->pipe->core;
     if (answer == LIBUSB_ERROR_NO_MEM) {
@@ -101,6 +105,25 @@ void trace_submission(struct transfer *transfer, int length, uint8_t flags, int 
         trace_text("\n");
     }
     trace_out();
+}
+
+/* With a seed what a read's buffer had before isn't left in it: libusb's manual says nothing of the bytes behind `actual_length`. */
+void fill_unwritten(uint8_t *at, int length)
+{
+    if (process.bus.seed && length > 0)
+        memset(at, UNWRITTEN, (size_t)length);
+}
+
+/* A piece that goes into the core where its answers are looked at one by one, for a trace or with a seed. */
+int core_submit_watched(struct transfer *transfer, int length, uint8_t flags)
+{
+    const struct libusb_transfer *shown = public_of(transfer);
+    if (is_in(transfer->pipe->ep))
+        fill_unwritten(shown->buffer + transfer->moved, shown->length - transfer->moved);
+    int answer = core_submit_alone(transfer, length, flags);
+    if (process.bus.is_traced)
+        trace_submission(transfer, length, flags, answer);
+    return answer;
 }
 
 static struct tirnouch_view look_at(const struct pipe *pipe)

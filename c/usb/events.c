@@ -97,7 +97,7 @@ void step_down(struct libusb_context *context)
 static void look_at_callback(struct libusb_context *context, const struct libusb_transfer *it)
 {
     if (process.looks_closer)
-        context->called = (struct called){ .ep = it->endpoint, .length = it->length, .moment = now() };
+        context->called = (struct called){ .ep = it->endpoint, .length = it->length, .moment = real_time() };
     note_call(context, it->actual_length, "callback", "endpoint %02x, status %d, bytes", it->endpoint, (int)it->status);
 }
 

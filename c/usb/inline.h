@@ -84,11 +84,13 @@ static inline int claim_in_passing(struct libusb_device_handle *handle, int inte
     return handle->claimed >> interface & 1 ? 0 : claim_unasked(handle, interface, transfer);
 }
 
-/* A transfer at an endpoint ended: without an answer, where it was withdrawn before there was one. */
-static inline void count_withdrawn(struct pipe *pipe, enum libusb_transfer_status status, int moved)
+/* A transfer at an endpoint ended: without an answer, where it was withdrawn before there was one. Why another failed may be hinted at. */
+static inline void count_withdrawn(struct transfer *transfer, enum libusb_transfer_status status, int moved)
 {
     if (!moved && (status == LIBUSB_TRANSFER_CANCELLED || status == LIBUSB_TRANSFER_TIMED_OUT))
-        pipe->withdrawn++;
+        transfer->pipe->withdrawn++;
+    else if (status == LIBUSB_TRANSFER_OVERFLOW)
+        hint_at_overflow(transfer, moved);
 }
 
 static inline void join(struct transfers *queue, struct transfer *transfer)
@@ -128,7 +130,7 @@ static inline struct tirnouch_memory no_memory(void)
 
 /* A transfer's next piece, of so many bytes. One that reads lends its part of the program's buffer: the packets' bytes go straight into
  * it. That its time is over is told by an expiry, so any timeout but 0 will do. */
-static inline int core_submit(struct transfer *transfer, int length, uint8_t flags)
+static inline int core_submit_alone(struct transfer *transfer, int length, uint8_t flags)
 {
     const struct pipe *pipe = transfer->pipe;
     struct tirnouch_slot *core = &pipe->core->slot;
@@ -144,9 +146,12 @@ static inline int core_submit(struct transfer *transfer, int length, uint8_t fla
         transfer->number = reply.number;
         transfer->lent = lends ? at : process.nowhere;
     }
-    if (process.bus.is_traced)
-        trace_submission(transfer, length, flags, answer);
     return answer;
+}
+
+static inline int core_submit(struct transfer *transfer, int length, uint8_t flags)
+{
+    return process.bus.is_watched ? core_submit_watched(transfer, length, flags) : core_submit_alone(transfer, length, flags);
 }
 
 /* The transfer of a result. What it lent is the program's again. The core's contract has the bytes that stand in the memory which comes

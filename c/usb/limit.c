@@ -49,7 +49,9 @@ _Noreturn static void end_run(unsigned long milliseconds, bool is_locked)
     if (is_locked)
         write_all_why(STDERR_FILENO);
     else
-        dprintf(STDERR_FILENO, "libusb:   a thread is in a call of the library that doesn't return\n");
+        write_who_is_asked(STDERR_FILENO);
+    if (is_locked)
+        write_hints(STDERR_FILENO);
     _exit(STATUS);
 }
 
@@ -134,6 +136,7 @@ static void limit_bus(unsigned turn)
 }
 
 void end_limit_of_bus(void) { limit_bus(0); }
+bool has_limit(void) { return limit || limited.turn; }
 void hold_limit_for_fork(void) { pthread_mutex_lock(&limited.lock); }
 void go_on_with_limit(void) { pthread_mutex_unlock(&limited.lock); }
 

@@ -80,6 +80,7 @@ void ask_at_once(struct device *device);
 void forget_own_number(void);
 void begin_asking(int device, const char *of, uint8_t ep);
 void end_asking(void);
+void write_who_is_asked(int file);
 
 /* program.c: devices that are programs, and the lines that go to and fro */
 int begin_program(struct device *device, const struct desk *desk, struct growing *text);

@@ -32,7 +32,7 @@ void set_told_level(struct libusb_context *context)
     __atomic_store_n(&context->told_level, is_all ? LIBUSB_LOG_LEVEL_DEBUG : context->log_level, __ATOMIC_RELAXED);
 }
 
-static void set_told_levels(void)
+void set_told_levels(void)
 {
     set_told_level(&process.nobody);
     for (struct libusb_context *it = process.contexts; it; it = it->next)

@@ -47,7 +47,7 @@ void end_transfer(struct transfer *transfer, enum libusb_transfer_status status,
     bool stays = process.bus.is_ending && !transfer->is_dropped;
     struct pipe *pipe = transfer->pipe;
     if (pipe) {
-        count_withdrawn(pipe, status, moved);
+        count_withdrawn(transfer, status, moved);
         if (pipe->cut == transfer)
             pipe->cut = NULL;
     }
@@ -170,7 +170,7 @@ static int submit_to_pipe(struct transfer *transfer)
     const struct libusb_transfer *it = public_of(transfer);
     struct pipe *pipe = &transfer->handle->device->pipes[place_of(it->endpoint)];
     if (it->endpoint != pipe->ep || !pipe->kind)
-        return LIBUSB_ERROR_NOT_FOUND;
+        return hint_at_no_endpoint(transfer->handle->device, it->endpoint);
     if (!fits(pipe, it))
         return pipe->is_unset ? LIBUSB_ERROR_IO : LIBUSB_ERROR_INVALID_PARAM;
     int r = claim_in_passing(transfer->handle, pipe->interface, it);

@@ -142,12 +142,25 @@ void tell_all_why(struct libusb_context *context, const char *what)
         tell_one(it, what, true);
 }
 
+/* Since when is known where each call is looked at. */
+static void say_callback(const struct libusb_context *context, left_fn *say, void *to)
+{
+    const struct called *called = &context->called;
+    struct sentence it = { 0 };
+    if (context->calling && process.looks_closer)
+        append(&it, "the callback of a transfer of %d byte%s at %02x runs, for %" PRIu64 " ms so far", called->length,
+               plural((uint64_t)called->length), called->ep, (real_time() - called->moment) / MILLISECOND);
+    else
+        append(&it, "a callback runs");
+    say(to, NULL, &it);
+}
+
 /* What a context hasn't finished, a sentence each: at most so many of its transfers. The transfer is NULL where none is meant. */
 static void each_left(struct libusb_context *context, size_t most, left_fn *say, void *to)
 {
     size_t told = 0;
     if (context->is_calling)
-        say(to, NULL, &(struct sentence){ .text = "a callback runs" });
+        say_callback(context, say, to);
     if (context->ended.first)
         say(to, NULL, &(struct sentence){ .text = "ended, and not called back yet: libusb_handle_events isn't called" });
     for (struct transfer *it = context->flying.first; it && told < most; it = it->next, told++) {

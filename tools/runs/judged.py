@@ -12,8 +12,8 @@ NAME = b"TIRNOUCH_DIFFERENCES"
 
 
 class Judgement:
-    """The file that the library writes in a run: a line `begun` for each bus that is judged, `ended` where its end was, `differs ..`, and
-    `misused ..`."""
+    """The file that the library writes in a run: a line `begun` for each bus that is judged, `ended` where its end was, `differs ..`,
+    `misused ..`, and `hint ..` for what may help where the run failed."""
 
     def __init__(self, folder: pathlib.Path) -> None:
         self.path = folder / "differences"
@@ -30,6 +30,10 @@ class Judgement:
     def is_misused(self) -> bool:
         return any(it.startswith("misused ") for it in self.lines())
 
+    def hints(self) -> Sequence[str]:
+        """Each once, in order."""
+        return list(dict.fromkeys(it[len("hint "):] for it in self.lines() if it.startswith("hint ")))
+
     def failure(self) -> Optional[str]:
         """What is wrong with a run that ended well, if something is."""
         if self.is_misused():
@@ -41,8 +45,19 @@ class Judgement:
         lines = self.lines()
         return lines.count("begun") == lines.count("ended")
 
+    def tell_hints(self) -> None:
+        for it in self.hints():
+            tell(f"hint: {it}")
+
     def status(self, program: str, devices: str, status: int) -> int:
-        """The status of a run in the foreground, of which the program's own is this."""
+        """The status of a run in the foreground, of which the program's own is this. Behind one that isn't 0 its hints are told."""
+        judged = self.judged(program, devices, status)
+        if judged:
+            self.tell_hints()
+        return judged
+
+    def judged(self, program: str, devices: str, status: int) -> int:
+        """The same without hints."""
         if status == 0 and self.differs():
             tell(f"what {program} wrote isn't what {devices} expects: status {DIFFERS} in place of 0 (--lenient only tells)")
             return DIFFERS

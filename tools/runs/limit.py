@@ -130,8 +130,11 @@ def end_as(program: Watched, status: int) -> NoReturn:
 
 
 def judged_status(judgement: Judgement, devices: Optional[str], program: str, status: int) -> int:
-    """The status as `wait` has it. Without the devices' name the run isn't judged."""
-    if devices is None or not os.WIFEXITED(status):
+    """The status as `wait` has it. Without the devices' name the run isn't judged. One that a signal ended has its hints too."""
+    if devices is None:
+        return status
+    if not os.WIFEXITED(status):
+        judgement.tell_hints()
         return status
     return judgement.status(program, devices, os.WEXITSTATUS(status)) << 8
 
@@ -170,15 +173,17 @@ def run_with_limit(asked: argparse.Namespace, words: Sequence[str]) -> NoReturn:
         program = Watched(words, environment)
         is_in_time = program.wait(began + milliseconds / 1000 + SLACK)
         status = program.status
+        # The library has told its hints then.
+        is_over = is_in_time and os.WIFEXITED(status) and os.WEXITSTATUS(status) == OVER and time.monotonic() - began >= milliseconds / 1000
         if not is_in_time:
             tell(f"{words[0]} didn't end within {said}: it was ended by {program.end()}")
             tell_last_steps(os.fsdecode(name), since)
             status = None
-        elif os.WIFEXITED(status) and os.WEXITSTATUS(status) == OVER and time.monotonic() - began >= milliseconds / 1000:
+        elif is_over:
             program.end()
             tell(f"{words[0]} didn't end within {said}: the library ended it")
             tell_last_steps(os.fsdecode(name), since)
-        if status is not None:
+        if status is not None and not is_over:
             status = judged_status(judgement, devices, words[0], status)
     remove(asked.remove)
     end_as(program, OVER << 8 if status is None else status)

@@ -7,6 +7,7 @@ import subprocess
 import sys
 from typing import Dict, List, Sequence
 
+from judged import Judgement
 from seeds import Seeds
 from traces import buses_of, own_traces
 
@@ -89,6 +90,8 @@ def report(runs: Seeds) -> int:
     for failure, seeds in kinds.items() if runs.words.keep_going else list(kinds.items())[:1]:
         print(f"seed {seeds[0]} failed: {failure}")
         show_output(runs.at(seeds[0]) / "output")
+        for hint in Judgement(runs.at(seeds[0])).hints():
+            print(f"hint: {hint}")
         keep(runs.at(seeds[0]), seeds[0], *runs.words.picture)
         print(f"run it again: {command_again(runs.words, runs.program, seeds[0])}")
         if len(seeds) > 1:

@@ -1,5 +1,6 @@
 /* What tools/tirnouch_run_test.py runs: programs that hang, crash, or fail with some seeds alone. The first word says which. */
 #include <libusb.h>
+#include <tirnouch.h>
 
 #include <pthread.h>
 #include <signal.h>
@@ -202,6 +203,49 @@ static int writes(const char *how)
     return end(!strcmp(how, "fails") ? 7 : 0);
 }
 
+/* Reads once at an endpoint, into so much room, and ends with a status. */
+static int gets_one(const char *ep, int room, int status)
+{
+    unsigned char data[64];
+    int moved;
+    begin();
+    libusb_bulk_transfer(handle, (unsigned char)strtoul(ep, NULL, 16), data, room, &moved, 100);
+    return end(status);
+}
+
+static void hang_within(struct libusb_transfer *transfer)
+{
+    (void)transfer;
+    sleep_for_ever();
+}
+
+static int hangs_in_a_callback(void)
+{
+    begin();
+    struct libusb_transfer *transfer = libusb_alloc_transfer(0);
+    libusb_fill_bulk_transfer(transfer, handle, FROM_DEVICE, buffers[0], PACKET, hang_within, NULL, 0);
+    libusb_submit_transfer(transfer);
+    return libusb_handle_events(NULL);
+}
+
+static int never_answer(void *user, uint8_t ep, uint8_t *data, int length)
+{
+    (void)user, (void)ep, (void)data, (void)length;
+    sleep_for_ever();
+    return 0;
+}
+
+/* Where the library is linked that has such functions. */
+static int hangs_in_a_function(void)
+{
+    unsigned char data[8];
+    int moved;
+    tirnouch_on_packet(0, 0x81, never_answer, NULL);
+    begin();
+    for (;;)
+        libusb_bulk_transfer(handle, FROM_DEVICE, data, sizeof data, &moved, 0);
+}
+
 /* Frees a read behind its callback, or behind its cancel alone, which libusb's manual forbids; and ends, or fails. */
 static int frees(const char *when, int status)
 {
@@ -223,12 +267,15 @@ int main(int count, char **words)
         { "ends", ends }, { "events", hangs_in_events }, { "loop", hangs_in_a_loop }, { "before", hangs_before },
         { "deadlock", deadlocks }, { "deaf", is_deaf }, { "aborts", aborts }, { "crashes", crashes }, { "forks", forks },
         { "much", prints_much }, { "race", has_a_race }, { "hanging-race", hangs_by_a_race }, { "reads", reads_a_line },
+        { "callback", hangs_in_a_callback }, { "function", hangs_in_a_function },
     };
     for (size_t i = 0; count > 1 && i < sizeof all / sizeof all[0]; i++)
         if (!strcmp(words[1], all[i].name))
             return all[i].run();
     if (count > 2 && !strcmp(words[1], "writes"))
         return writes(words[2]);
+    if (count > 4 && !strcmp(words[1], "gets"))
+        return gets_one(words[2], atoi(words[3]), atoi(words[4]));
     if (count > 2 && !strcmp(words[1], "frees"))
         return frees(words[2], count > 3 ? atoi(words[3]) : 0);
     return count > 2 ? atoi(words[2]) : 2;
