@@ -33,10 +33,11 @@ LEFT_OUT = {"thread": {"fork", "memory", "scarce"}}
 UNSEEDED = ("memory", "scarce", "races", "endless")
 SECONDS = 240
 # What is tried besides: runs that hang, crash or fail with some seeds; recordings; runs against those, and against traces; what a trace has
-# where a run ends; what long work says; devices and examples in Python; what is to be tried for a change; writes that are changed; and
-# wrong bodies: whether they fit, and whose turn it is.
+# where a run ends; what long work says; devices and examples in Python; what is to be tried for a change; writes that are changed; how
+# costs grow; and wrong bodies: whether they fit, and whose turn it is.
 TOOLS = ["tirnouch_run_test.py", "tirnouch_record_test.py", "capture_run_test.py", "trace_run_test.py", "traces_test.py",
-         "progress_test.py", "device_test.py", "python_test.py", "changed_test.py", "changed_writes_test.py", "wrong_bodies_test.py"]
+         "progress_test.py", "device_test.py", "python_test.py", "changed_test.py", "changed_writes_test.py", "growth_test.py",
+         "wrong_bodies_test.py"]
 # How many seeds each program is tried with, and how many dice the program that has its own.
 SEEDS, DICE = {"plain": 6, "sanitized": 2}, {"plain": 12, "sanitized": 3}
 

@@ -72,7 +72,8 @@ enum behind { INTERRUPTED = 1, POLLED = 2, CLOSED = 4 };
 /* A transfer as it is kept here. What the program sees of it stands behind it in memory (`seen`). */
 struct transfer {
     struct transfer *previous, *next; /* those in progress in its context, in order of submission */
-    struct transfer *behind;          /* in its endpoint's queue, among control transfers, or among those that ended */
+    struct transfer *behind;          /* in its endpoint's queue, among control transfers, or among those that ended; */
+    struct transfer *ahead;           /* in the first two: the one before it, where it isn't the first */
     struct libusb_context *context;
     struct libusb_device_handle *handle;
     struct pipe *pipe;                /* its endpoint; NULL for a control transfer */

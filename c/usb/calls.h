@@ -157,6 +157,7 @@ bool reap_one(void);
 bool reap(void);
 bool turn_only_one(void);
 void leave_amid(struct transfers *queue, struct transfer *transfer);
+void leave_between(struct transfers *queue, struct transfer *transfer);
 void take_out(struct device *device);
 
 /* work.c: devices, controller and events */

@@ -35,7 +35,7 @@ int submit_control(struct transfer *transfer)
     transfer->pipe = NULL;
     transfer->naks = 0;
     transfer->stage = AT_CONTROL;
-    join(&process.bus.controls, transfer);
+    join_both_ways(&process.bus.controls, transfer);
     return 0;
 }
 
@@ -184,7 +184,7 @@ static void trace_wait(const struct device *device, const uint8_t *setup)
 void leave_unanswered(struct transfer *transfer, const char *status)
 {
     const struct device *device = transfer->handle->device;
-    leave(&process.bus.controls, transfer);
+    leave_both_ways(&process.bus.controls, transfer);
     if (transfer->naks)
         trace_comment(device->core, "request %d %s", device->number, status);
 }
@@ -203,7 +203,7 @@ static void end_request(struct transfer *transfer, int answer)
     struct device *device = transfer->handle->device;
     uint8_t *setup = public_of(transfer)->buffer;
     bool is_short = answer < (int)two_bytes(setup + 6) && public_of(transfer)->flags & LIBUSB_TRANSFER_SHORT_NOT_OK;
-    leave(&process.bus.controls, transfer);
+    leave_both_ways(&process.bus.controls, transfer);
     if (process.bus.is_watched)
         look_at_answer(device, setup, answer);
     if (answer >= 0)

@@ -103,6 +103,14 @@ static inline void join(struct transfers *queue, struct transfer *transfer)
     queue->last = transfer;
 }
 
+/* The same in a queue that transfers leave from any place, as cancels have it: each knows the one before it. */
+static inline void join_both_ways(struct transfers *queue, struct transfer *transfer)
+{
+    if (queue->last)
+        transfer->ahead = queue->last;
+    join(queue, transfer);
+}
+
 static inline void leave(struct transfers *queue, struct transfer *transfer)
 {
     if (queue->first != transfer) {
@@ -112,6 +120,14 @@ static inline void leave(struct transfers *queue, struct transfer *transfer)
     queue->first = transfer->behind;
     if (!queue->first)
         queue->last = NULL;
+}
+
+static inline void leave_both_ways(struct transfers *queue, struct transfer *transfer)
+{
+    if (queue->first == transfer)
+        leave(queue, transfer);
+    else
+        leave_between(queue, transfer);
 }
 
 /* Whether a call of this answer is told: a refusal at level 3, any other at level 4; or whether lines of before wait to be told, which goes

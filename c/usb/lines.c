@@ -5,9 +5,11 @@
 static void join_first(struct transfers *queue, struct transfer *transfer)
 {
     transfer->behind = queue->first;
-    queue->first = transfer;
-    if (!queue->last)
+    if (queue->first)
+        queue->first->ahead = transfer;
+    else
         queue->last = transfer;
+    queue->first = transfer;
 }
 
 /* From any place in it. */
@@ -23,6 +25,16 @@ void leave_amid(struct transfers *queue, struct transfer *transfer)
     *at = transfer->behind;
     if (queue->last == transfer)
         queue->last = before;
+}
+
+/* One that isn't the first, and knows the one before it. */
+void leave_between(struct transfers *queue, struct transfer *transfer)
+{
+    transfer->ahead->behind = transfer->behind;
+    if (transfer->behind)
+        transfer->behind->ahead = transfer->ahead;
+    else
+        queue->last = transfer->ahead;
 }
 
 static void activate(struct pipe *pipe)
@@ -68,7 +80,7 @@ static int submit_piece(struct transfer *transfer)
 void queue_up(struct transfer *transfer)
 {
     transfer->stage = QUEUED;
-    join(&transfer->pipe->queue, transfer);
+    join_both_ways(&transfer->pipe->queue, transfer);
     activate(transfer->pipe);
 }
 

@@ -88,7 +88,7 @@ int cancel(struct transfer *transfer, enum ask ask)
         return r;
     }
     if (transfer->stage == QUEUED)
-        leave(&transfer->pipe->queue, transfer);
+        leave_both_ways(&transfer->pipe->queue, transfer);
     else if (transfer->stage == AT_CONTROL)
         leave_unanswered(transfer, expires ? "TIMED_OUT" : "CANCELLED");
     else
