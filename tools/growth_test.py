@@ -1,6 +1,6 @@
 #!/usr/bin/env python3
-"""Tries how the cost of a call grows with what is in flight: tools/growth_test.py. By instructions, which valgrind counts, and which are the
-same on a machine that is loaded: four times as much work takes at most five times as many.
+"""Tries how the cost of a call grows with what is in flight: tools/growth_test.py. By instructions, which valgrind counts, and which are
+the same on a machine that is loaded: four times as much work takes at most five times as many.
 
 The programs are those of c/tests/growth, over bin/libusb-1.0.a. Without valgrind nothing is tried, and that is said."""
 import pathlib
@@ -34,8 +34,8 @@ def main() -> int:
     failed = 0
     with tempfile.TemporaryDirectory(prefix="growth-test-") as folder:
         program = pathlib.Path(folder) / "cancels"
-        subprocess.run(["gcc", "-std=c11", "-O2", "-D_GNU_SOURCE", "-I", ROOT / "c" / "include", SOURCE, LIBRARY, "-pthread", "-o", program],
-                       check=True)
+        subprocess.run(["gcc", "-std=c11", "-O2", "-D_GNU_SOURCE", "-I", ROOT / "c" / "include", SOURCE, LIBRARY, "-pthread",
+                        "-o", program], check=True)
         for what in ("bulk", "requests"):
             few, many = (instructions(program, what, count) for count in (FEW, TIMES * FEW))
             if many > MOST * few:

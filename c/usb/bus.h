@@ -309,6 +309,7 @@ struct bus {
     unsigned handle_count;
     bool is_ending;                   /* transfers that end stay in progress till all have: they leave in order (outliving.c) */
     bool is_readied;                  /* a device's function said that some device has something to answer now */
+    bool holds_back;                  /* an answer waits for a callback (gates.c), since events were handled last */
     struct device *devices[DEVICES];
 };
 

@@ -104,8 +104,8 @@ bool work_by_dice(bool waits)
     return true;
 }
 
-/* The next moment that virtual time may go on to before a call, by `until`: one at which a device is to be asked, or a deadline, and not long
- * behind a deadline that nobody has looked at; 0 for none. */
+/* The next moment that virtual time may go on to before a call, by `until`: one at which a device is to be asked, or a deadline, and not
+ * long behind a deadline that nobody has looked at; 0 for none. */
 static uint64_t next_moment(uint64_t until)
 {
     uint64_t here = process.bus.moment, next = next_ask();
@@ -118,8 +118,8 @@ static uint64_t next_moment(uint64_t until)
     return next > here && next <= until ? next : 0;
 }
 
-/* Time goes on by dice, where nothing is left to be done before that; whether it does. Requests are answered where events are handled: so it
- * doesn't while one is due. */
+/* Time goes on by dice, where nothing is left to be done before that; whether it does. Requests are answered where events are handled: so
+ * it doesn't while one is due. */
 static bool is_held_up(uint64_t until)
 {
     struct bus *bus = &process.bus;

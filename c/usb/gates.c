@@ -60,6 +60,28 @@ static uint64_t came_in(const struct pipe *waiting, const struct pipe *other)
     return other == waiting ? other->withdrawn : other->answers;
 }
 
+/* Whether the driver knows of all that ended at an endpoint: of none a callback waits, here or in the core. Who handles events for another
+ * context looks again. */
+static bool is_told_of(const struct pipe *other)
+{
+    struct tirnouch_view view = { 0 };
+    tirnouch_look(&other->core->slot, other->number, other->ep, &view);
+    bool is_told = !(view.waiting & (TIRNOUCH_WAITS_EVENT | TIRNOUCH_WAITS_RESULT));
+    for (const struct libusb_context *context = process.contexts; context && is_told; context = context->next)
+        for (const struct transfer *it = context->ended.first; it && is_told; it = it->behind)
+            is_told = it->pipe != other;
+    process.bus.holds_back |= !is_told;
+    for (struct libusb_context *context = process.contexts; context && !is_told; context = context->next)
+        wake(context);
+    return is_told;
+}
+
+/* Answers of another endpoint for IN are behind a driver that was called back for them: as on a bus, where a device takes its time. */
+static bool is_reached_in(const struct pipe *pipe, const struct pipe *other, uint64_t count)
+{
+    return came_in(pipe, other) >= count && (other == pipe || is_told_of(other));
+}
+
 static bool is_reached(const struct pipe *pipe, const struct gate *gate)
 {
     const struct pipe *other = &pipe->device->pipes[place_of(gate->other)];
@@ -67,7 +89,7 @@ static bool is_reached(const struct pipe *pipe, const struct gate *gate)
         return tallied(pipe->device, gate->meant) >= gate->count;
     if (!gate->other)
         return pipe->device->request_count >= gate->count;
-    return is_in(gate->other) ? came_in(pipe, other) >= gate->count : has_taken(other, gate->count);
+    return is_in(gate->other) ? is_reached_in(pipe, other, gate->count) : has_taken(other, gate->count);
 }
 
 /* What an endpoint's next answer waits for; NULL where it waits for nothing. A device that is pulled out waits for nothing, nor does an

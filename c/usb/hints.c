@@ -61,10 +61,10 @@ static int bytes_at(const struct line *line, uint64_t place)
 static bool find_script(const struct pipe *pipe, struct line *line)
 {
     char beginning[24];
-    size_t at = 0;
+    struct text left = process.bus.text;
     snprintf(beginning, sizeof beginning, "script %d %02x ", pipe->device->number, pipe->ep);
     *line = (struct line){ .number = 0 };
-    while (process.bus.text && next_line(process.bus.text, process.bus.text_length, &at, line))
+    while (next_line(&left, line))
         if (line->length > strlen(beginning) && !strncasecmp(line->at, beginning, strlen(beginning)))
             return true;
     return false;

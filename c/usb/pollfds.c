@@ -41,10 +41,11 @@ static void show_time(const struct libusb_context *context)
 /* Whoever polls sees what is to be done, and is told when a time is over. */
 void show_readiness(struct libusb_context *context)
 {
-    if (is_due(context))
+    if (is_due(context) || process.bus.holds_back)
         ring(context);
     else
         drain(context);
+    process.bus.holds_back = false;
     if (!process.bus.is_virtual)
         show_time(context);
     else if (!is_rung(context))

@@ -1,4 +1,5 @@
-/* Transfers are submitted, and cancelled with the newest first: cancels bulk|requests COUNT. tools/growth_test.py counts its instructions. */
+/* Transfers are submitted, and cancelled with the newest first: cancels bulk|requests COUNT. tools/growth_test.py counts its
+ * instructions. */
 #include "libusb.h"
 #include "tirnouch.h"
 

@@ -1,5 +1,5 @@
-/* Races of devices that compute, by seeds in virtual time: one that isn't ready is asked again before any call, and time goes on to where it
- * is, or to a deadline. The same races come out as at a script. The ends that there have to be are written from docs/DEVICES.md. */
+/* Races of devices that compute, by seeds in virtual time: one that isn't ready is asked again before any call, and time goes on to where
+ * it is, or to a deadline. The same races come out as at a script. The ends that there have to be are written from docs/DEVICES.md. */
 #include "scene.h"
 
 #include <stdio.h>
