@@ -91,8 +91,8 @@ class Trial:
         return subprocess.run(words, cwd=self.folder, env={**clean, **env}, capture_output=True, text=True, timeout=SECONDS, check=False)
 
     def record(self, *words: str, devices: pathlib.Path = DEVICES, program: Sequence[str] = ()) -> Ran:
-        """The program over the devices of a text, recorded by these words."""
-        return self.run(str(RUN), str(devices), "--", str(RECORD), "-o", str(self.capture), *words, "--", *(program or [str(self.program)]))
+        """The program over the devices of a text, recorded by these words, whatever it does that libusb's manual forbids."""
+        return self.run(str(RUN), str(devices), "--lenient", "--", str(RECORD), "-o", str(self.capture), *words, "--", *(program or [str(self.program)]))
 
     def record_kind(self, kind: str, *words: str) -> Ran:
         return self.record(*words, "--no-strings", program=[str(self.program), kind])
@@ -279,7 +279,7 @@ def under(sanitizer: str) -> Callable[[Trial], None]:
         runtime = {"address": "libasan.so", "thread": "libtsan.so"}[sanitizer]
         path = trial.run("gcc", f"-print-file-name={runtime}").stdout.strip()
         for kind in ["threads", *(it for it in KINDS if it != "forks" or sanitizer != "thread")]:
-            ran = trial.run(str(RUN), str(DEVICES), "--", "env", "ASAN_OPTIONS=verify_asan_link_order=0", f"LD_PRELOAD={path}",
+            ran = trial.run(str(RUN), str(DEVICES), "--lenient", "--", "env", "ASAN_OPTIONS=verify_asan_link_order=0", f"LD_PRELOAD={path}",
                             sys.executable, "-B", str(ROOT / "tools" / "runs"), "record", str(trial.capture), str(library), "--no-strings",
                             "--", str(program), kind)
             trial.check(ran.returncode == 0 and "Sanitizer" not in ran.stderr, f"{kind}: status {ran.returncode}, {ran.stderr[-1500:]}")

@@ -8,6 +8,7 @@
 #include <stdarg.h>
 #include <stdio.h>
 #include <stdlib.h>
+#include <string.h>
 
 /* How many are kept of each. */
 #define MOST_KEPT 4096
@@ -77,7 +78,7 @@ void begin_misuse(void)
     static bool is_begun;
     const char *asked = is_begun ? NULL : getenv("TIRNOUCH_MISUSE");
     is_begun = true;
-    if (!asked || !*asked)
+    if (!asked || strcmp(asked, "yes"))
         return;
     process.tells_misuse = true;
     process.release_transfer = keep_transfer;
