@@ -30,8 +30,10 @@ SECONDS = 40
 # Programs that try what libusb has no part in, or leaves undefined.
 LEFT_OUT = {
     **{name: "its devices compute their answers" for name in ("amid", "living", "sessions", "endless", "programs", "inside", "together",
-                                                              "scarce")},
-    **{name: "its buses begin and end by Tirnouch's calls" for name in ("bare", "buses", "kept", "outlive", "within")},
+                                                              "scarce", "unready")},
+    **{name: "its buses begin and end by Tirnouch's calls" for name in ("bare", "buses", "functions", "kept", "outlive", "within")},
+    "inserted": "the files that its texts name are Tirnouch's",
+    "late": "its time passes by Tirnouch's calls",
     "misuse": "what is wrong in it is undefined there",
     "expects": "what it expects of a driver is Tirnouch's",
     "environment": "its variables are Tirnouch's",
@@ -42,11 +44,12 @@ LEFT_OUT = {
     "seeds": "its seeds are Tirnouch's",
     "speaks": "its messages are Tirnouch's",
     "texts": "its refusals are Tirnouch's",
+    "unwritten": "what a seed writes behind a read's bytes is Tirnouch's",
 }
 # Programs that call what an older libusb lacks: they are run where it has this function.
 SINCE = {"capabilities": "libusb_get_platform_descriptor", "discovery": "libusb_init_context", "lifetimes": "libusb_init_context"}
 # Calls that libusb's manual forbids, so that anything may come of them.
-NOT_RUN = {"exit": {"exit_amid_events(1);", "exit_amid_events(THREADS);", "open_at_exit();"}}
+NOT_RUN = {"exit": {"exit_amid_events(1);", "exit_amid_events(THREADS);", "open_at_exit();"}, "hotplug": {"exit_within();"}}
 
 
 def find_library(root):

@@ -80,13 +80,13 @@ static int of_endpoint(const struct device *device, const uint8_t *setup, uint8_
 /* The standard requests of a device, of an interface and of an endpoint (USB 2.0, 9.4). */
 static int standard(const struct device *device, const uint8_t *setup, uint8_t *data, int length)
 {
-    uint8_t none = 0, configuration = (uint8_t)device->configuration;
+    uint8_t configuration = (uint8_t)device->configuration;
     switch (setup[0] << 8 | setup[1]) {
     case 0x8006: return descriptor(device, setup[3], setup[2], data, length);
     case 0x8008: return copy(data, length, &configuration, 1);
     case 0x8000: return word(data, length, (unsigned)has_power(device) | (unsigned)device->is_waking << 1);
     case 0x8100: return word(data, length, 0);
-    case 0x810a: return copy(data, length, &none, 1);
+    case 0x810a: return setup[4] < INTERFACES ? copy(data, length, &device->interfaces[setup[4]].setting, 1) : TIRNOUCH_STALL;
     case 0x8200:
     case 0x0201:
     case 0x0203: return of_endpoint(device, setup, data, length);
@@ -112,17 +112,21 @@ static void carry_out(struct device *device, const uint8_t *setup)
         device->pipes[place_of(ep)].is_halted = is_set;
 }
 
+/* Whether a request has the fields of a line, of which -1 fits any. */
+bool has_fields(const uint8_t *setup, const int fields[4])
+{
+    const int its[4] = { setup[0], setup[1], (int)two_bytes(setup + 2), (int)two_bytes(setup + 4) };
+    bool fits = true;
+    for (int i = 0; i < 4; i++)
+        fits &= fields[i] < 0 || fields[i] == its[i];
+    return fits;
+}
+
 static struct control *find_line(struct device *device, const uint8_t *setup)
 {
-    const int fields[4] = { setup[0], setup[1], (int)two_bytes(setup + 2), (int)two_bytes(setup + 4) };
-    for (int i = 0; i < device->control_count; i++) {
-        struct control *it = &device->controls[i];
-        bool fits = true;
-        for (int j = 0; j < 4; j++)
-            fits &= it->fields[j] < 0 || it->fields[j] == fields[j];
-        if (fits)
-            return it;
-    }
+    for (int i = 0; i < device->control_count; i++)
+        if (has_fields(setup, device->controls[i].fields))
+            return &device->controls[i];
     return NULL;
 }
 

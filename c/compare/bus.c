@@ -24,9 +24,30 @@ void begin_scripts(struct device *device, int interface)
         struct pipe *pipe = &device->pipes[place_of(it->address)];
         if (interface >= 0 && it->interface != interface)
             continue;
-        pipe->script.next = 0;
+        pipe->script.next = pipe->withdrawn = 0;
         pipe->is_halted = false;
     }
+}
+
+static size_t requests_with(const struct device *device, const int fields[4])
+{
+    size_t count = 0;
+    for (size_t i = 0; i < device->request_count && i < MOST_REQUESTS; i++)
+        count += has_fields(device->requests[i], fields);
+    return count;
+}
+
+/* How much came so far of what an `after` line waits for. */
+static size_t came_for(const struct device *device, const struct gate *gate)
+{
+    const struct pipe *other = &device->pipes[place_of(gate->other)];
+    if (gate->is_of_requests)
+        return requests_with(device, gate->fields);
+    if (!gate->other)
+        return device->request_count;
+    if (gate->other == gate->ep)
+        return other->withdrawn;
+    return gate->other & 0x80 ? other->script.next : other->taken_count;
 }
 
 /* Whether `after` lines let this endpoint answer now. */
@@ -35,8 +56,7 @@ static bool is_let(const struct device *device, unsigned ep)
     const struct pipe *pipe = &device->pipes[place_of(ep)];
     for (int i = 0; i < device->gate_count; i++) {
         const struct gate *it = &device->gates[i];
-        size_t passed = it->other ? device->pipes[place_of(it->other)].taken_count : device->request_count;
-        if (it->ep == ep && pipe->script.next >= it->place && passed < it->count)
+        if (it->ep == ep && pipe->script.next >= it->place && came_for(device, it) < it->count)
             return false;
     }
     return true;

@@ -11,15 +11,17 @@ static struct interface *interface_of(struct device *device, unsigned interface)
     return &device->interfaces[interface];
 }
 
-/* The interface of an endpoint (findintfep). */
+/* The interface that has an endpoint in some setting, which needn't be the one that is set (findintfep). */
 int find_interface(const struct device *device, unsigned ep)
 {
     if (ep & ~0x8fu)
         return -EINVAL;
     if (!device->configuration)
         return -ESRCH;
-    const struct endpoint *endpoint = find_endpoint(device, ep);
-    return endpoint ? endpoint->interface : -ENOENT;
+    for (int i = 0; i < device->endpoint_count; i++)
+        if (device->endpoints[i].address == ep)
+            return device->endpoints[i].interface;
+    return -ENOENT;
 }
 
 /* claimintf */
@@ -114,11 +116,11 @@ int claim_from_driver(struct file *file, const struct usbdevfs_disconnect_claim 
     return claim_interface(file, asked->interface);
 }
 
-/* A setting begins with no endpoint halted (USB 2.0, 9.1.1.5). */
-static void end_halts(struct device *device, unsigned interface)
+/* A setting begins with no endpoint halted (USB 2.0, 9.1.1.5); so do those of all interfaces, for -1. */
+void end_halts(struct device *device, int interface)
 {
     for (int i = 0; i < device->endpoint_count; i++)
-        if (device->endpoints[i].interface == interface)
+        if (interface < 0 || device->endpoints[i].interface == interface)
             device->pipes[place_of(device->endpoints[i].address)].is_halted = false;
 }
 
@@ -133,7 +135,7 @@ int set_setting(struct file *file, const struct usbdevfs_setinterface *asked)
         return -EINVAL;
     end_requests(file->device, file, (int)asked->interface, -ESHUTDOWN);
     it->setting = (uint8_t)asked->altsetting;
-    end_halts(file->device, asked->interface);
+    end_halts(file->device, (int)asked->interface);
     return 0;
 }
 
@@ -152,11 +154,13 @@ int set_configuration(struct file *file, int value)
     return 0;
 }
 
-/* proc_clearhalt; what is in flight stays. */
+/* proc_clearhalt; what is in flight stays. The device stalls the request where its setting lacks the endpoint. */
 int clear_halt(struct file *file, unsigned ep)
 {
     int interface = find_interface(file->device, ep);
     int answer = interface < 0 ? interface : need_interface(file, (unsigned)interface);
+    if (!answer && !find_endpoint(file->device, ep))
+        return -EPIPE;
     if (!answer)
         file->device->pipes[place_of(ep)].is_halted = false;
     return answer;
@@ -168,7 +172,10 @@ int reset_device(struct file *file)
     for (unsigned i = 0; i < INTERFACES; i++)
         if (file->device->interfaces[i].holder)
             unbind(file->device, i);
-    begin_scripts(file->device, -1);
+    if (file->device->lasts)
+        end_halts(file->device, -1);
+    else
+        begin_scripts(file->device, -1);
     file->device->is_waking = false;
     return 0;
 }

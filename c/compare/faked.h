@@ -48,7 +48,7 @@ struct pipe {
     struct script script;
     bool is_halted;
     struct packet *taken;
-    size_t taken_count;
+    size_t taken_count, withdrawn; /* requests that were discarded before they had an answer */
 };
 
 /* An endpoint of a setting of an interface. */
@@ -70,8 +70,11 @@ struct control {
     struct script script;
 };
 
+/* An `after` line: of another endpoint, or of requests with these fields. */
 struct gate {
     uint8_t ep, other;
+    bool is_of_requests;
+    int fields[4];
     size_t place, count;
 };
 
@@ -87,7 +90,7 @@ struct request {
 
 struct device {
     int number;
-    bool is_there, is_hidden, is_gone, is_leaving, begins_anew, is_waking; /* is_waking: it may wake its host now */
+    bool is_there, is_hidden, is_gone, is_leaving, begins_anew, lasts, is_waking; /* is_waking: it may wake its host now */
     uint8_t descriptor[18], *config, *strings[256];
     int config_length, configuration, value; /* the value that is set, 0 for none, and the one there is */
     const char *speed;
@@ -135,6 +138,7 @@ void begin_scripts(struct device *device, int interface);
 
 /* answers.c: how many bytes moved, or one of tirnouch.h's answers, or BROKEN */
 #define BROKEN (-4)
+bool has_fields(const uint8_t *setup, const int fields[4]);
 int answer_request(struct device *device, const uint8_t *setup, uint8_t *data, int length);
 
 /* requests.c */
@@ -150,6 +154,7 @@ int claim_interface(struct file *file, unsigned interface);
 int need_interface(struct file *file, unsigned interface);
 int release_interface(struct file *file, unsigned interface);
 int find_interface(const struct device *device, unsigned ep);
+void end_halts(struct device *device, int interface);
 int driver_of(const struct file *file, struct usbdevfs_getdriver *asked);
 int driver_command(struct file *file, const struct usbdevfs_ioctl *command);
 int claim_from_driver(struct file *file, const struct usbdevfs_disconnect_claim *asked);

@@ -51,6 +51,8 @@ static int check_kind(const struct file *file, const struct usbdevfs_urb *urb)
 {
     const struct endpoint *endpoint = find_endpoint(file->device, urb->endpoint);
     bool is_bulk = urb->type == USBDEVFS_URB_TYPE_BULK, is_interrupt = urb->type == USBDEVFS_URB_TYPE_INTERRUPT;
+    if (!endpoint)
+        return -ENOENT;
     if (endpoint->kind == 3)
         return is_bulk || is_interrupt ? 0 : -EINVAL;
     return endpoint->kind == 2 && is_bulk ? 0 : -EINVAL;
@@ -116,6 +118,7 @@ int discard_request(struct file *file, const struct usbdevfs_urb *urb)
 {
     for (struct request *it = file->device->pending; it; it = it->next)
         if (it->file == file && it->urb == urb) {
+            file->device->pipes[place_of(it->ep)].withdrawn += !it->moved;
             end_request(it, -ENOENT);
             return 0;
         }

@@ -114,25 +114,37 @@ static void read_string(struct device *device, char **rest)
     *rest = NULL;
 }
 
+/* A field of a request, -1 for any. */
+static int field_of(const char *word)
+{
+    return !word || word[0] == '*' ? -1 : (int)strtoul(word, NULL, 16);
+}
+
 static void read_control(struct device *device, char **rest)
 {
     struct control *it = &device->controls[device->control_count];
     device->control_count += device->control_count < MOST_LINES - 1;
-    for (int i = 0; i < 4; i++) {
-        const char *word = next_word(rest);
-        it->fields[i] = !word || word[0] == '*' ? -1 : (int)strtoul(word, NULL, 16);
-    }
+    for (int i = 0; i < 4; i++)
+        it->fields[i] = field_of(next_word(rest));
     read_script(&it->script, rest);
 }
 
+/* Behind the place stand an endpoint and a number, or the four fields of requests and a number. */
 static void read_gate(struct device *device, char **rest)
 {
+    const char *words[5] = { NULL };
+    int count = 0;
     struct gate *it = &device->gates[device->gate_count];
     device->gate_count += device->gate_count < MOST_LINES - 1;
     it->ep = (uint8_t)next_number(rest, 16);
     it->place = next_number(rest, 10);
-    it->other = (uint8_t)next_number(rest, 16);
-    it->count = next_number(rest, 10);
+    while (count < 5 && (words[count] = next_word(rest)))
+        count++;
+    it->is_of_requests = count == 5;
+    for (int i = 0; i < 4; i++)
+        it->fields[i] = field_of(words[i]);
+    it->other = it->is_of_requests ? 0 : (uint8_t)it->fields[0];
+    it->count = count > 1 ? strtoul(words[count - 1], NULL, 10) : 0;
 }
 
 static void read_speed(struct device *device, char **rest)
@@ -166,6 +178,8 @@ static void read_rest(struct device *device, const char *kind, char **rest)
         device->is_hidden = true;
     } else if (!strcmp(kind, "anew")) {
         device->begins_anew = true;
+    } else if (!strcmp(kind, "lasts")) {
+        device->lasts = true;
     }
 }
 
