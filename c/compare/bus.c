@@ -155,8 +155,11 @@ static bool run_device(struct device *device, bool *asks)
         passed |= bit;
         any |= it->ep ? serve_packet(device, it) : serve_control(device, it, asks);
     }
-    if (device->is_leaving && !device->is_gone)
+    if (device->is_leaving && !device->is_gone) {
         pull_device(device);
+        if (device->becomes != device)
+            come_back(device);
+    }
     return any;
 }
 
@@ -167,7 +170,7 @@ bool run_bus(void)
     while (any) {
         any = asks = false;
         for (int i = 0; i < DEVICES; i++)
-            if (faked_devices[i].is_there && !faked_devices[i].is_gone)
+            if (is_present(&faked_devices[i]))
                 any |= run_device(&faked_devices[i], &asks);
     }
     return asks;

@@ -90,6 +90,8 @@ struct request {
 
 struct device {
     int number;
+    unsigned port, address;
+    struct device *becomes; /* the one that stands at its port where it comes back: itself, unless a line says so */
     bool is_there, is_hidden, is_gone, is_leaving, begins_anew, lasts, is_waking; /* is_waking: it may wake its host now */
     uint8_t descriptor[18], *config, *strings[256];
     int config_length, configuration, value; /* the value that is set, 0 for none, and the one there is */
@@ -115,21 +117,29 @@ struct file {
     struct device *device;
     uint32_t claimed;
     struct request *done;
-    bool is_ready;
+    bool is_ready, is_gone; /* is_gone: its device left, and may have come back as another since */
 };
 
 extern pthread_mutex_t faked_lock;
 extern struct device faked_devices[DEVICES];
 
-/* The root hub, by its number: it has address 1, and device D has address D + FIRST_ADDRESS. */
-#define HUB (-1)
-#define FIRST_ADDRESS 2
+/* The root hub's address. Those of devices go on behind it, up to the last, and begin anew then (choose_devnum). */
+#define HUB_ADDRESS 1
+#define LAST_ADDRESS 127
 
 static inline unsigned two_bytes(const uint8_t *at) { return (unsigned)at[0] | (unsigned)at[1] << 8; }
 static inline unsigned place_of(unsigned ep) { return (ep & 15u) * 2 + (ep >> 7 & 1u); }
 
 /* text.c: the devices of a text, anew. */
 void read_devices(const char *text);
+
+/* ports.c: who is there, and who comes with an address of its own. */
+bool is_present(const struct device *device);
+struct device *device_at_address(unsigned address);
+struct device *device_at_port(unsigned port);
+void give_addresses(void);
+void show_device(struct device *device);
+void come_back(struct device *device);
 
 /* bus.c: packets and requests */
 bool run_bus(void);

@@ -8,6 +8,8 @@
 #include <string.h>
 
 static char *text;
+/* Of which devices the program has a function that computes their answers. */
+static bool computes[DEVICES];
 
 void begin_devices(void);
 
@@ -76,19 +78,47 @@ int tirnouch_pull(int number)
     return result;
 }
 
+/* A hidden one is there from now on. One that is gone comes back, where a function computes its answers. */
 int tirnouch_show(int number)
 {
+    int result = 0;
     pthread_mutex_lock(&faked_lock);
     struct device *device = find(number);
-    bool is_hidden = device && device->is_hidden;
-    if (is_hidden) {
-        device->is_hidden = false;
-        tell_udev(device, true);
-    }
+    if (device && device->is_hidden)
+        show_device(device);
+    else if (device && device->is_gone && computes[number] && !is_present(device->becomes))
+        come_back(device);
+    else
+        result = LIBUSB_ERROR_NOT_FOUND;
     pthread_mutex_unlock(&faked_lock);
-    if (!is_hidden)
-        return LIBUSB_ERROR_NOT_FOUND;
+    if (!result)
+        wait_until_told();
+    return result;
+}
+
+/* Of a scripted device that is there. */
+int tirnouch_replug(int number)
+{
+    int result = tirnouch_pull(number);
+    if (result)
+        return result;
+    pthread_mutex_lock(&faked_lock);
+    come_back(&faked_devices[number]);
+    pthread_mutex_unlock(&faked_lock);
     wait_until_told();
+    return 0;
+}
+
+/* The function isn't called: here it is one that is never ready, for a device that may come back. */
+int tirnouch_on_packet(int number, uint8_t endpoint, tirnouch_packet answer, void *user)
+{
+    (void)endpoint;
+    (void)user;
+    if (number < 0 || number >= DEVICES)
+        return LIBUSB_ERROR_NOT_FOUND;
+    pthread_mutex_lock(&faked_lock);
+    computes[number] = answer != NULL;
+    pthread_mutex_unlock(&faked_lock);
     return 0;
 }
 

@@ -73,7 +73,7 @@ static int check(struct file *file, const struct usbdevfs_urb *urb)
 
 int submit_request(struct file *file, struct usbdevfs_urb *urb)
 {
-    if (file->device->is_gone)
+    if (file->is_gone)
         return -ENODEV;
     int answer = check(file, urb);
     if (answer)
@@ -103,7 +103,7 @@ int reap_request(struct file *file, struct usbdevfs_urb **urb)
 {
     struct request *request = file->done;
     if (!request)
-        return file->device->is_gone ? -ENODEV : -EAGAIN;
+        return file->is_gone ? -ENODEV : -EAGAIN;
     file->done = request->next;
     request->urb->status = request->status;
     request->urb->actual_length = request->moved;

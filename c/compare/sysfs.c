@@ -1,4 +1,4 @@
-/* The attributes in /sys/bus/usb/devices that libusb reads. Device D is 1-P, with P one more than D; its root hub is usb1. */
+/* The attributes in /sys/bus/usb/devices that libusb reads. The device at port P is 1-P; its root hub is usb1. */
 #include "faked.h"
 
 #include <errno.h>
@@ -37,7 +37,7 @@ static int attribute_of(const struct device *device, const char *name)
     if (!strcmp(name, "busnum"))
         return number_file(1);
     if (!strcmp(name, "devnum"))
-        return number_file(device->number + FIRST_ADDRESS);
+        return number_file((int)device->address);
     if (!strcmp(name, "speed"))
         return file_of(device->speed, strlen(device->speed), NULL, 0);
     if (!strcmp(name, "bConfigurationValue"))
@@ -69,9 +69,9 @@ int open_attribute(const char *path)
     char name[64];
     if (sscanf(path, "/sys/bus/usb/devices/usb1/%63s", name) == 1)
         return attribute_of_hub(name);
-    if (sscanf(path, "/sys/bus/usb/devices/1-%u/%63s", &port, name) == 2 && port >= 1 && port <= DEVICES) {
-        const struct device *device = &faked_devices[port - 1];
-        if (device->is_there && !device->is_hidden && !device->is_gone)
+    if (sscanf(path, "/sys/bus/usb/devices/1-%u/%63s", &port, name) == 2) {
+        const struct device *device = device_at_port(port);
+        if (device)
             return attribute_of(device, name);
     }
     errno = ENOENT;

@@ -43,7 +43,7 @@ bool is_polled(void)
 void show_ready(struct file *file)
 {
     uint64_t value = FULL;
-    bool is_ready = file->done || file->device->is_gone;
+    bool is_ready = file->done || file->is_gone;
     if (is_ready == file->is_ready)
         return;
     ssize_t moved = is_ready ? read(file->descriptor, &value, sizeof value) : write(file->descriptor, &value, sizeof value);
@@ -52,14 +52,21 @@ void show_ready(struct file *file)
     file->is_ready = is_ready;
 }
 
-/* usb_disconnect */
+/* usb_disconnect. Its files stay without it, whoever comes in its place. */
 int pull_device(struct device *device)
 {
     device->is_gone = true;
     end_requests(device, NULL, -1, -ESHUTDOWN);
+    for (int i = 0; i < INTERFACES; i++) {
+        device->interfaces[i].holder = NULL;
+        device->interfaces[i].setting = 0;
+    }
     for (struct file *it = files; it; it = it->next)
-        if (it->device == device)
+        if (it->device == device) {
+            it->claimed = 0;
+            it->is_gone = true;
             show_ready(it);
+        }
     tell_udev(device, false);
     return 0;
 }
@@ -67,11 +74,11 @@ int pull_device(struct device *device)
 /* The root hub is root's alone. */
 static int open_device(const char *path)
 {
-    unsigned address = (unsigned)atoi(path + strlen("/dev/bus/usb/001/")), number = address - FIRST_ADDRESS;
-    struct device *device = number < DEVICES ? &faked_devices[number] : NULL;
-    if (address == HUB + FIRST_ADDRESS)
+    unsigned address = (unsigned)atoi(path + strlen("/dev/bus/usb/001/"));
+    struct device *device = device_at_address(address);
+    if (address == HUB_ADDRESS)
         return errno = EACCES, -1;
-    if (strncmp(path, "/dev/bus/usb/001/", 17) || !device || !device->is_there || device->is_hidden || device->is_gone)
+    if (strncmp(path, "/dev/bus/usb/001/", 17) || !device)
         return errno = ENOENT, -1;
     struct file *file = calloc(1, sizeof *file);
     if (!file)
@@ -148,7 +155,7 @@ static int answer(struct file *file, unsigned long request, void *argument)
 {
     if (request == USBDEVFS_REAPURBNDELAY)
         return reap_request(file, argument);
-    if (file->device->is_gone)
+    if (file->is_gone)
         return -ENODEV;
     switch (request) {
     case USBDEVFS_GET_CAPABILITIES: return capabilities(argument);
@@ -199,7 +206,7 @@ static void tell_errors(struct pollfd *polled, nfds_t count)
 {
     for (nfds_t i = 0; i < count; i++) {
         const struct file *file = polled[i].revents ? file_of(polled[i].fd) : NULL;
-        if (file && file->device->is_gone)
+        if (file && file->is_gone)
             polled[i].revents |= POLLERR | POLLHUP;
     }
 }

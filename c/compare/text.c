@@ -72,6 +72,7 @@ static void begin_device(struct device *device, const char *digits)
 {
     static const uint8_t usual[18] = { 18, 1, 0, 2, 0, 0, 0, 64, 0x09, 0x12, 1, 0, 0, 1, 0, 0, 0, 1 };
     device->is_there = true;
+    device->becomes = device;
     device->speed = "480\n";
     device->leaves_ep = -1;
     memcpy(device->descriptor, usual, sizeof usual);
@@ -147,6 +148,16 @@ static void read_gate(struct device *device, char **rest)
     it->count = count > 1 ? strtoul(words[count - 1], NULL, 10) : 0;
 }
 
+/* comes back D as E: E isn't there at first. */
+static void read_return(char **rest)
+{
+    next_word(rest);
+    struct device *device = &faked_devices[next_number(rest, 10) % DEVICES];
+    next_word(rest);
+    device->becomes = &faked_devices[next_number(rest, 10) % DEVICES];
+    device->becomes->is_hidden = true;
+}
+
 static void read_speed(struct device *device, char **rest)
 {
     const char *word = next_word(rest);
@@ -188,6 +199,10 @@ static void read_line(char *line)
     char *rest, *kind = strtok_r(line, " ", &rest);
     if (!kind || kind[0] == '#')
         return;
+    if (!strcmp(kind, "comes")) {
+        read_return(&rest);
+        return;
+    }
     struct device *device = &faked_devices[next_number(&rest, 10) % DEVICES];
     if (!strcmp(kind, "device"))
         begin_device(device, next_word(&rest));
@@ -210,9 +225,12 @@ void read_devices(const char *text)
 {
     char *copy = strdup(text), *rest;
     memset(faked_devices, 0, sizeof faked_devices);
-    for (int i = 0; i < DEVICES; i++)
+    for (int i = 0; i < DEVICES; i++) {
         faked_devices[i].number = i;
+        faked_devices[i].port = (unsigned)i + 1;
+    }
     for (char *line = strtok_r(copy, "\n", &rest); line; line = strtok_r(NULL, "\n", &rest))
         read_line(line);
     free(copy);
+    give_addresses();
 }

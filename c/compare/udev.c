@@ -48,17 +48,18 @@ void watch_begins(bool begins)
     pthread_mutex_unlock(&faked_lock);
 }
 
-static struct udev_device *make_device(int number, const char *action)
+/* Of a device, or of the root hub for NULL. */
+static struct udev_device *make_device(const struct device *device, const char *action)
 {
     struct udev_device *made = calloc(1, sizeof *made);
     if (!made)
         abort();
     made->action = action;
-    if (number == HUB)
-        strcpy(made->name, "usb1");
+    if (device)
+        snprintf(made->name, sizeof made->name, "1-%u", device->port & 7u);
     else
-        snprintf(made->name, sizeof made->name, "1-%u", ((unsigned)number + 1) & 7u);
-    snprintf(made->node, sizeof made->node, "/dev/bus/usb/001/%03u", (unsigned)(number + FIRST_ADDRESS) & 7u);
+        strcpy(made->name, "usb1");
+    snprintf(made->node, sizeof made->node, "/dev/bus/usb/001/%03u", device ? device->address & 127u : HUB_ADDRESS);
     return made;
 }
 
@@ -68,7 +69,7 @@ void tell_udev(struct device *device, bool is_arrival)
     uint64_t one = 1;
     if (watched < 0 || event_count == MOST_EVENTS)
         return;
-    events[event_count++] = make_device(device->number, is_arrival ? "add" : "remove");
+    events[event_count++] = make_device(device, is_arrival ? "add" : "remove");
     if (write(watched, &one, sizeof one) != sizeof one)
         abort();
 }
@@ -186,7 +187,10 @@ struct udev_device *udev_device_new_from_syspath(struct udev *udev, const char *
 {
     (void)udev;
     const char *port = strrchr(path, '-');
-    return make_device(port ? atoi(port + 1) - 1 : HUB, NULL);
+    pthread_mutex_lock(&faked_lock);
+    struct udev_device *made = make_device(port ? device_at_port((unsigned)atoi(port + 1)) : NULL, NULL);
+    pthread_mutex_unlock(&faked_lock);
+    return made;
 }
 
 struct udev_enumerate *udev_enumerate_new(struct udev *udev)
@@ -223,9 +227,9 @@ int udev_enumerate_scan_devices(struct udev_enumerate *enumerate)
     strcpy(last->path, "/sys/bus/usb/devices/usb1");
     for (int i = 0; i < DEVICES; i++) {
         struct udev_list_entry *it = &enumerate->entries[1 + i];
-        if (!faked_devices[i].is_there || faked_devices[i].is_hidden || faked_devices[i].is_gone)
+        if (!is_present(&faked_devices[i]))
             continue;
-        snprintf(it->path, sizeof it->path, "/sys/bus/usb/devices/1-%d", i + 1);
+        snprintf(it->path, sizeof it->path, "/sys/bus/usb/devices/1-%u", faked_devices[i].port);
         last->next = it;
         last = it;
     }
