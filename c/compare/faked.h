@@ -24,6 +24,7 @@
 #define MOST_ENDPOINTS 64
 #define MOST_LINES 64
 #define MOST_REQUESTS 4096
+#define MOST_ANSWERS 65536
 #define SETUP 8
 
 /* An answer of a script: `d` with its bytes, `a`, `n`, `s` or `b`. */

@@ -29,15 +29,42 @@ static unsigned long next_number(char **rest, int base)
     return word ? strtoul(word, NULL, base) : 0;
 }
 
+/* An answer so many times, as far as a line has room for it. */
+static void add_answers(struct script *script, struct answer answer, size_t times)
+{
+    size_t room = MOST_ANSWERS - script->count, more = times < room ? times : room;
+    script->answers = realloc(script->answers, (script->count + more + 1) * sizeof *script->answers);
+    if (!script->answers)
+        abort();
+    while (more--)
+        script->answers[script->count++] = answer;
+}
+
+/* How often an answer is given: N of `A*N`, which is cut off. The star of `a:HEX*` is its own. */
+static size_t times_of(char *word)
+{
+    char *star = strchr(word, '*'), *end;
+    if (!star || !star[1])
+        return 1;
+    size_t times = strtoul(star + 1, &end, 10);
+    if (*end)
+        return 1;
+    *star = 0;
+    return times;
+}
+
+/* What is expected of a packet isn't judged here. */
 static void read_script(struct script *script, char **rest)
 {
     for (char *word; (word = next_word(rest));) {
-        script->answers = realloc(script->answers, (script->count + 1) * sizeof *script->answers);
-        if (!script->answers)
-            abort();
-        struct answer *it = &script->answers[script->count++];
-        it->kind = word[0];
-        it->bytes = read_hex(word[0] == 'd' ? word + 2 : "", &it->length);
+        if (!strcmp(word, "..") && script->count) {
+            add_answers(script, script->answers[script->count - 1], MOST_ANSWERS);
+            continue;
+        }
+        size_t times = times_of(word);
+        struct answer answer = { .kind = word[0] };
+        answer.bytes = read_hex(word[0] == 'd' ? word + 2 : "", &answer.length);
+        add_answers(script, answer, times);
     }
 }
 
