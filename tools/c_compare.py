@@ -163,6 +163,10 @@ def compared_scenes(name):
     return [scene for scene in expected_scenes(name) if scene[0] not in OWN.get(name, {}).values()]
 
 
+def count_scenes(names):
+    return sum(len(compared_scenes(name)) for name in names)
+
+
 def compare(name, told):
     """What differs of a program, by titles: the expected lines with -, libusb's with +."""
     here, there = compared_scenes(name), scenes_of(told)
@@ -256,10 +260,14 @@ def main():
     faults = list(judge_names())
     print("".join(f"{it}\n" for it in faults), end="")
     library = find_library(words.root)
-    if not library:
-        print("libusb isn't there, so nothing is compared with it: --root DIR names a folder with Debian's libusb-1.0-0")
-        return 1 if faults else 0
     names = words.names or sorted(it.stem for it in TESTS.glob("*.expected") if it.stem not in LEFT_OUT)
+    if not library and words.root:
+        print(f"{words.root} has no {NAME} of libusb's: Debian's libusb-1.0-0 is unpacked there by `dpkg -x`")
+        return 1
+    if not library:
+        print(f"skipped: libusb isn't installed, so {count_scenes(names)} scenes of {len(names)} programs aren't compared with it "
+              "(`apt-get install libusb-1.0-0`, or --root DIR)")
+        return 1 if faults else 0
     print("".join(f"{it}: isn't run, since this libusb lacks {SINCE[it]}\n" for it in names if not has_functions(library, it)), end="")
     names = [it for it in names if has_functions(library, it)]
     with tempfile.TemporaryDirectory(prefix="c-compare-") as folder:
@@ -268,9 +276,8 @@ def main():
         print("\n\n".join("\n".join([head, *lines]) for head, lines in differing.items()))
         return 0
     wrong = list(judge(differing, names))
-    scenes = sum(len(compared_scenes(name)) for name in names)
     print("".join(f"{it}\n" for it in wrong), end="")
-    print(f"{scenes} scenes of {len(names)} programs, on {library}: {len(differing)} differ; {len(wrong)} faults")
+    print(f"{count_scenes(names)} scenes of {len(names)} programs, on {library}: {len(differing)} differ; {len(wrong)} faults")
     return 1 if faults or wrong else 0
 
 
