@@ -29,11 +29,11 @@ FOLDERS = ["usr/lib/x86_64-linux-gnu", "lib/x86_64-linux-gnu", "usr/lib/aarch64-
 SECONDS = 40
 # Programs that try what libusb has no part in, or leaves undefined.
 LEFT_OUT = {
-    **{name: "its devices compute their answers" for name in ("amid", "living", "sessions", "endless", "programs", "inside", "together",
-                                                              "scarce", "unready")},
+    **{name: "its devices compute their answers" for name in ("living", "sessions", "endless", "programs", "inside", "together", "scarce",
+                                                              "unready")},
     **{name: "its buses begin and end by Tirnouch's calls" for name in ("bare", "buses", "functions", "kept", "outlive", "within")},
+    "amid": "it calls from log functions and from signals' handlers, of which libusb promises nothing",
     "inserted": "the files that its texts name are Tirnouch's",
-    "late": "its time passes by Tirnouch's calls",
     "misuse": "what is wrong in it is undefined there",
     "expects": "what it expects of a driver is Tirnouch's",
     "environment": "its variables are Tirnouch's",
@@ -44,13 +44,15 @@ LEFT_OUT = {
     "seeds": "its seeds are Tirnouch's",
     "speaks": "its messages are Tirnouch's",
     "texts": "its refusals are Tirnouch's",
-    "unwritten": "what a seed writes behind a read's bytes is Tirnouch's",
 }
 # Programs that call what an older libusb lacks: they are run where it has this function.
 SINCE = {"capabilities": "libusb_get_platform_descriptor", "discovery": "libusb_init_context", "lifetimes": "libusb_init_context"}
-# Scenes whose subject is Tirnouch's own, in programs that have others too: their titles, by their calls.
-OWN = {"told": {"odd_answers();": "an answer to a request that means nothing", "timeouts();": "the timeouts of a trace",
-                "no_descriptors();": "no descriptor is left"}}
+# Programs of which these scenes alone are libusb's too, by their calls; the others' subject is Tirnouch's own.
+ALONE = {
+    "late": {"slow_callback();": "another thread's callback takes longer than a timeout"},
+    "told": {"logs();": "log callbacks", "streams();": "a stream's number"},
+    "unwritten": {"without_a_seed();": "without a seed"},
+}
 # Calls that libusb's manual forbids, so that anything may come of them.
 NOT_RUN = {"exit": {"exit_amid_events(1);", "exit_amid_events(THREADS);", "open_at_exit();"}, "hotplug": {"exit_within();"}}
 
@@ -160,7 +162,11 @@ def expected_scenes(name):
 
 def compared_scenes(name):
     """Those of them that aren't Tirnouch's own."""
-    return [scene for scene in expected_scenes(name) if scene[0] not in OWN.get(name, {}).values()]
+    return [scene for scene in expected_scenes(name) if name not in ALONE or scene[0] in ALONE[name].values()]
+
+
+def is_run(name, call):
+    return call not in NOT_RUN.get(name, ()) and (name not in ALONE or call in ALONE[name])
 
 
 def count_scenes(names):
@@ -186,7 +192,7 @@ def run_programs(library, root, names, folder):
     with ThreadPoolExecutor(os.cpu_count()) as pool:
         programs = dict(zip(names, pool.map(builder.build, names)))
     jobs = [(name, i, is_fast) for is_fast in (False, True) for name in names for i, call in enumerate(calls_of(name))
-            if call not in NOT_RUN.get(name, ()) and call not in OWN.get(name, ())]
+            if is_run(name, call)]
     told = {(name, is_fast): [] for name in names for is_fast in (False, True)}
     with ThreadPoolExecutor(32) as pool:
         for (name, _, is_fast), lines in zip(jobs, pool.map(lambda it: run(programs[it[0]], it[1], library, it[2]), jobs)):
@@ -247,6 +253,19 @@ def judge_names():
                 yield f'docs/RACES.md names a scene of {name} that isn\'t there: "{title}"'
 
 
+def judge_tables():
+    """Programs, calls and titles of the tables above that aren't there."""
+    for name in [*LEFT_OUT, *SINCE, *ALONE, *NOT_RUN]:
+        if not (TESTS / f"{name}.expected").exists():
+            yield f"tools/c_compare.py names a program that isn't there: {name}"
+    for name, call in [(name, call) for table in (ALONE, NOT_RUN) for name, calls in table.items() for call in calls]:
+        if call not in calls_of(name):
+            yield f"tools/c_compare.py names a call of {name} that isn't there: {call}"
+    for name, title in [(name, title) for name, scenes in ALONE.items() for title in scenes.values()]:
+        if title not in [it[0] for it in expected_scenes(name)]:
+            yield f'tools/c_compare.py names a scene of {name} that isn\'t there: "{title}"'
+
+
 def arguments():
     parser = argparse.ArgumentParser(description=__doc__.splitlines()[0])
     parser.add_argument("--root", type=pathlib.Path, metavar="DIR", help="a folder into which libusb-1.0-0 was unpacked")
@@ -257,7 +276,7 @@ def arguments():
 
 def main():
     words = arguments()
-    faults = list(judge_names())
+    faults = [*judge_names(), *judge_tables()]
     print("".join(f"{it}\n" for it in faults), end="")
     library = find_library(words.root)
     names = words.names or sorted(it.stem for it in TESTS.glob("*.expected") if it.stem not in LEFT_OUT)
@@ -277,7 +296,7 @@ def main():
         return 0
     wrong = list(judge(differing, names))
     print("".join(f"{it}\n" for it in wrong), end="")
-    print(f"{count_scenes(names)} scenes of {len(names)} programs, on {library}: {len(differing)} differ; {len(wrong)} faults")
+    print(f"{count_scenes(names)} scenes of {len(names)} programs, on {library}: {len(differing)} differ; {len(faults + wrong)} faults")
     return 1 if faults or wrong else 0
 
 

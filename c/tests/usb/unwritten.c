@@ -59,16 +59,26 @@ static void read_all(void)
     end();
 }
 
-int main(void)
+static void without_a_seed(void)
+{
+    begin_text("without a seed", DEVICE);
+    read_all();
+}
+
+static void with_a_seed(void)
 {
     const char text[] = DEVICE;
     struct tirnouch_options options = { .size = sizeof options, .devices = text, .devices_length = sizeof text - 1, .seed = 3 };
-    begin_text("without a seed", text);
-    read_all();
     puts("with a seed");
     answer("begin", tirnouch_begin(&options));
     answer("init", libusb_init(&context));
     read_all();
     answer("end", tirnouch_end());
+}
+
+int main(void)
+{
+    without_a_seed();
+    with_a_seed();
     return 0;
 }
