@@ -32,7 +32,7 @@ LEFT_OUT = {
     **{name: "its devices compute their answers" for name in ("living", "sessions", "endless", "programs", "inside", "together", "scarce",
                                                               "unready")},
     **{name: "its buses begin and end by Tirnouch's calls" for name in ("bare", "buses", "functions", "kept", "outlive", "within")},
-    "amid": "it calls from log functions and from signals' handlers, of which libusb promises nothing",
+    "amid": "its log is Tirnouch's, and of calls from signals' handlers libusb promises nothing",
     "inserted": "the files that its texts name are Tirnouch's",
     "misuse": "what is wrong in it is undefined there",
     "expects": "what it expects of a driver is Tirnouch's",

@@ -58,6 +58,8 @@ void come_back(struct device *device)
     comes->configuration = comes->value;
     comes->is_waking = comes->is_leaving = comes->is_gone = false;
     comes->request_count = 0;
+    for (int i = 0; i < INTERFACES; i++)
+        comes->interfaces[i].is_bound = comes->interfaces[i].has_driver;
     begin_scripts(comes, -1);
     for (int i = 0; i < PLACES; i++)
         comes->pipes[i].taken_count = 0;
