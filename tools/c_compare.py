@@ -123,7 +123,10 @@ class Builder:
     def build(self, name):
         program = self.folder / name
         links = [self.library, "-Wl,--allow-shlib-undefined", "-rdynamic", "-pthread"]
-        subprocess.run([*self.words, split_source(name, self.folder), *self.objects, *links, "-o", program], check=True)
+        source = split_source(name, self.folder)
+        if subprocess.run([*self.words, source, *self.objects, *links, "-o", program]).returncode:
+            sys.exit(f"c/tests/usb/{name}.c isn't built on {self.library}, for the reasons above: where this libusb lacks a function, "
+                     "SINCE of tools/c_compare.py names it; where the scenes are Tirnouch's own, LEFT_OUT")
         return program
 
 
