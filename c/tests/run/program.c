@@ -239,11 +239,12 @@ static int never_answer(void *user, uint8_t ep, uint8_t *data, int length)
 static int hangs_in_a_function(void)
 {
     unsigned char data[8];
-    int moved;
+    int moved, answer = 0;
     tirnouch_on_packet(0, 0x81, never_answer, NULL);
     begin();
-    for (;;)
-        libusb_bulk_transfer(handle, FROM_DEVICE, data, sizeof data, &moved, 0);
+    while (!answer)
+        answer = libusb_bulk_transfer(handle, FROM_DEVICE, data, sizeof data, &moved, 0);
+    return answer;
 }
 
 /* Frees a read behind its callback, or behind its cancel alone, which libusb's manual forbids; and ends, or fails. */
